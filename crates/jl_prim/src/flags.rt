@@ -1,0 +1,56 @@
+//! Access and property flags (JVMS 4.1, 4.5, 4.6, 4.7.25).
+
+ghost use Rattle.std.specs.Prelude.{⊤, ◌≡◌, [], ◌∷◌, codes};
+
+use bitflags::{Flag, Flags, bitflag_items};
+
+/// The flags of a class, a field, a method or a module. Some bits mean different things at different
+/// places, so they have a name for each.
+#[derive(Clone, Copy, Debug, PartialEq, Eq)]
+pub struct AccessFlags(u16);
+
+bitflag_items! {
+    impl AccessFlags: u16 {
+        const PUBLIC = 0x0001;
+        const PRIVATE = 0x0002;
+        const PROTECTED = 0x0004;
+        const STATIC = 0x0008;
+        const FINAL = 0x0010;
+        const OPEN = 0x0020;
+        const SUPER = 0x0020;
+        const SYNCHRONIZED = 0x0020;
+        const TRANSITIVE = 0x0020;
+        const STATIC_PHASE = 0x0040;
+        const NATIVE = 0x0100;
+        const INTERFACE = 0x0200;
+        const ABSTRACT = 0x0400;
+        const MODULE = 0x8000;
+    }
+}
+
+impl Flags for AccessFlags {
+    type Bits = u16;
+
+    ghost exact = { ⊤ };
+
+    ghost table = {
+        (codes "PUBLIC", 1) ∷ (codes "PRIVATE", 2) ∷ (codes "PROTECTED", 4) ∷ (codes "STATIC", 8)
+        ∷ (codes "FINAL", 16) ∷ (codes "OPEN", 32) ∷ (codes "SUPER", 32) ∷ (codes "SYNCHRONIZED", 32)
+        ∷ (codes "TRANSITIVE", 32) ∷ (codes "STATIC_PHASE", 64) ∷ (codes "NATIVE", 256)
+        ∷ (codes "INTERFACE", 512) ∷ (codes "ABSTRACT", 1024) ∷ (codes "MODULE", 32768) ∷ []
+    };
+
+    ghost set_of = { λ flags. flags.0 };
+
+    fn flags<'a>() -> &'a [Flag<AccessFlags>] {
+        AccessFlags::FLAGS
+    }
+
+    fn bits(&self) -> u16 {
+        self.0
+    }
+
+    fn from_bits_retain(bits: u16) -> AccessFlags {
+        AccessFlags(bits)
+    }
+}

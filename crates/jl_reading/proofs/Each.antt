@@ -1,0 +1,38 @@
+-- Reading units one after the other, as a loop does.
+use Rattle.std.proofs.Common.{◌≡◌, ℕ, zero, suc, ◌-◌, ◌+◌, ◌≤◌, ◌<◌, List, [], ◌∷◌, ◌++◌, Option, None, Some, Result, Ok, Err, refl, sym, ◌∙◌, arith}
+use Rattle.std.specs.Prelude.{MatchOption, ⊤}
+use Rattle.jl_reading.specs.Reading.{◌>>=◌, each_at, Fails}
+
+-- one more unit is read
+pub each_more : {X F : Type 0} (one : List X → ℕ → Result (X × ℕ) F) (done : List X) (count i at : ℕ) (x : X) (next : ℕ) (total : Result (List X × ℕ) F)
+    → i < count → one done at ≡ Ok (x, next) → each_at one done (count - i) at ≡ total → each_at one (done ++ x ∷ []) (count - (i + 1)) next ≡ total
+unfolding each_at
+each_more one done count i at x next total lt h so_far =
+    let k : count - i ≡ suc (count - (i + 1)) = omega arith in
+    let one_more : each_at one done (count - i) at ≡ each_at one (done ++ x ∷ []) (count - (i + 1)) next = rw (k, h) refl in
+    sym one_more ∙ so_far
+
+fails_as : {A B F : Type 0} (told : Option F) (r : Result A F) (f : A → Result B F) (total : Result B F)
+    → MatchOption told ⊤ (λ d. r ≡ Err d) → (r >>= f) ≡ total → MatchOption told ⊤ (λ d. total ≡ Err d)
+fails_as None r f total h e = tt
+fails_as (Some d) r f total h e =
+    let stopped : (r >>= f) ≡ Err d = rw h refl in
+    sym e ∙ stopped
+
+-- a unit that is not read ends the reading
+pub each_ends : {X E F : Type 0} (told : E → Option F) (e : E) (one : List X → ℕ → Result (X × ℕ) F) (done : List X) (count i at : ℕ) (total : Result (List X × ℕ) F)
+    → i < count → Fails told e (one done at) → each_at one done (count - i) at ≡ total → Fails told e total
+unfolding each_at
+each_ends told e one done count i at total lt h so_far =
+    let k : count - i ≡ suc (count - (i + 1)) = omega arith in
+    let begun : (one done at >>= λ x. each_at one (done ++ x.0 ∷ []) (count - (i + 1)) x.1) ≡ total = (rw k at so_far) in
+    fails_as (told e) (one done at) (λ x. each_at one (done ++ x.0 ∷ []) (count - (i + 1)) x.1) total h begun
+
+-- all are read
+pub each_done : {X F : Type 0} (one : List X → ℕ → Result (X × ℕ) F) (done : List X) (count i at : ℕ) (total : Result (List X × ℕ) F)
+    → count ≤ i → each_at one done (count - i) at ≡ total → total ≡ Ok (done, at)
+unfolding each_at
+each_done one done count i at total le so_far =
+    let k : count - i ≡ 0 = omega arith in
+    let ended : each_at one done (count - i) at ≡ Ok (done, at) = rw k refl in
+    sym so_far ∙ ended
