@@ -1,7 +1,8 @@
 -- Reading units one after the other, as a loop does.
 use Rattle.std.proofs.Common.{◌≡◌, ℕ, zero, suc, ◌-◌, ◌+◌, ◌≤◌, ◌<◌, List, [], ◌∷◌, ◌++◌, Option, None, Some, Result, Ok, Err, refl, sym, ◌∙◌, arith}
 use Rattle.std.specs.Prelude.{MatchOption, ⊤}
-use Rattle.jl_reading.specs.Reading.{◌>>=◌, each_at, Fails}
+use Rattle.jl_logic.specs.Answers.{Fails}
+use Rattle.jl_reading.specs.Reading.{◌>>=◌, each_at}
 
 -- one more unit is read
 pub each_more : {X F : Type 0} (one : List X → ℕ → Result (X × ℕ) F) (done : List X) (count i at : ℕ) (x : X) (next : ℕ) (total : Result (List X × ℕ) F)

@@ -1,5 +1,5 @@
 -- Readers on lists: a value and the place after it, or the first fault. F is the type of the faults.
-use Rattle.std.specs.Prelude.{◌≡◌, ℕ, zero, suc, ◌+◌, ◌≤◌, nat_lt, List, [], ◌∷◌, ◌++◌, length, take, drop, slice_index, ◌<◌, Option, None, Some, Result, Ok, Err, if◌then◌else◌, MatchOption, ⊤}
+use Rattle.std.specs.Prelude.{◌≡◌, ℕ, zero, suc, ◌+◌, ◌≤◌, nat_lt, List, [], ◌∷◌, ◌++◌, length, take, drop, slice_index, ◌<◌, Result, Ok, Err, if◌then◌else◌}
 use Rattle.byteorder.specs.Endian.{big_number, big_bytes}
 
 -- read, and go on with what was read
@@ -33,12 +33,3 @@ two n = big_bytes 2 n
 
 abbrev pub four : ℕ → List ℕ
 four n = big_bytes 4 n
-
--- What an error of type E tells of what was read: the fault, or nothing, as for want of memory.
-abbrev pub Fails : {Y E F : Type 0} → (E → Option F) → E → Result Y F → Type 0
-Fails told e read = MatchOption (told e) ⊤ (λ f. read ≡ Err f)
-
--- What a function of the program returned, seen by view, is what reading gives, unless its error tells nothing.
-abbrev pub Gives : {X Y E F : Type 0} → (E → Option F) → (X → Y) → Result X E → Result Y F → Type 0
-Gives told view (Ok x) read = read ≡ Ok (view x)
-Gives told view (Err e) read = Fails told e read
