@@ -1,0 +1,45 @@
+//! Why a pool was not read.
+
+ghost use Rattle.std.specs.Prelude.{◌≡◌};
+ghost use Rattle.jl_pool.specs.declared.fault.PoolFault.TheVariants.{NoMemory};
+
+use jl_reading::Fault;
+use std::alloc::{AllocError, AllocFailed};
+
+/// Why a pool was not read: the first fault from the left, then the least index of a wrong reference.
+#[derive(Clone, Copy, Debug, PartialEq, Eq)]
+pub enum PoolFault {
+    /// The number or the text at this place is not whole.
+    Short(usize),
+    /// The entry with this index has an unknown tag, a bad text, a Long or Double at the last index, or a
+    /// reference to an entry of another kind.
+    Entry(u16),
+    /// There was no memory for the pool.
+    NoMemory,
+}
+
+impl Fault for PoolFault {
+    ghost use Rattle.jl_pool.specs.declared.fault.PoolFault.TheVariants.{Short};
+
+    ghost short = { Short };
+
+    fn short(at: usize) -> PoolFault {
+        PoolFault::Short(at)
+    }
+}
+
+impl From<AllocError> for PoolFault {
+    ghost from_gives = { λ _ e. e ≡ NoMemory };
+
+    fn from(_e: AllocError) -> PoolFault {
+        PoolFault::NoMemory
+    }
+}
+
+impl<T: Drop> From<AllocFailed<T>> for PoolFault {
+    ghost from_gives = { λ _ e. e ≡ NoMemory };
+
+    fn from(_e: AllocFailed<T>) -> PoolFault {
+        PoolFault::NoMemory
+    }
+}

@@ -1,0 +1,12 @@
+//! Constant pools (JVMS 4.4).
+#![tactic(auto)]
+
+mod entry;
+mod fault;
+mod pool;
+mod reading;
+
+pub use entry::{Entry, Text};
+pub use fault::PoolFault;
+pub use pool::Pool;
+pub use reading::read_pool;
