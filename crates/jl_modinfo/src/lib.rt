@@ -1,0 +1,8 @@
+//! Module declarations in `module-info.class` files (JVMS 4.1, 4.7.25).
+#![tactic(auto)]
+
+mod fault;
+mod reading;
+
+pub use fault::InfoFault;
+pub use reading::read_info;
