@@ -1,2 +1,6 @@
-//! To be written.
+//! The least set of places that holds given ones and is closed under a successor.
 #![tactic(auto)]
+
+mod reach;
+
+pub use reach::closure;

@@ -1,0 +1,91 @@
+//! Configurations: modules and what each reads.
+
+ghost use Rattle.std.specs.Prelude.{◌≡◌, [], ◌∷◌};
+
+use jl_prim::{ConfigId, Items, Name, Observed};
+use std::alloc::Global;
+use std::marker::Model;
+
+/// One module reads another, which is a module of the configuration with this number.
+#[derive(Debug, Drop)]
+pub struct Read {
+    pub reader: Name,
+    pub config: ConfigId,
+    pub name: Name,
+}
+
+/// What a resolution gives: its modules in name order, and which of them reads which.
+#[derive(Debug, Drop)]
+pub struct Configuration {
+    id: ConfigId,
+    parents: Items<ConfigId>,
+    modules: Items<Observed>,
+    reads: Items<Read>,
+}
+
+impl Model for Configuration {
+    ghost use Rattle.jl_config.specs.Graphs.{Graph};
+
+    ghost Value = { Graph };
+
+    ghost view = { λ c. record { id = c.id; parents = c.parents; modules = c.modules; reads = c.reads } };
+}
+
+impl Configuration {
+    /// The empty configuration, whose number is 0. It has no parents.
+    pub fn empty(alloc: Global) -> Configuration
+        ensures { result ≡ record { id = record { 0 = 0 }; parents = []; modules = []; reads = [] } }
+    {
+        Configuration {
+            id: ConfigId(0),
+            parents: Items::new(alloc),
+            modules: Items::new(alloc),
+            reads: Items::new(alloc),
+        }
+    }
+
+    /// A configuration of these parts.
+    pub fn from_parts(
+        id: ConfigId,
+        parents: Items<ConfigId>,
+        modules: Items<Observed>,
+        reads: Items<Read>,
+    ) -> Configuration
+        ensures { result ≡ record { id = id; parents = parents; modules = modules; reads = reads } }
+    {
+        Configuration {
+            id,
+            parents,
+            modules,
+            reads,
+        }
+    }
+
+    /// The number of the configuration.
+    pub fn id(&self) -> ConfigId
+        ensures { result ≡ self.now.id }
+    {
+        self.id
+    }
+
+    /// The numbers of the parents, in order.
+    pub fn parents(&self) -> &[ConfigId]
+        ensures { result.now ≡ self.now.parents }
+    {
+        self.parents.as_slice()
+    }
+
+    /// The modules, in the order of the bytes of their names.
+    pub fn modules(&self) -> &[Observed]
+        ensures { result.now ≡ self.now.modules }
+    {
+        self.modules.as_slice()
+    }
+
+    /// Which module reads which, in the order of the readers and then of the modules that are read.
+    pub fn reads(&self) -> &[Read]
+        ensures { result.now ≡ self.now.reads }
+    {
+        self.reads.as_slice()
+    }
+}
