@@ -1,0 +1,1 @@
+//! The modules in the folders of a folder.
