@@ -77,3 +77,11 @@ found_or (Err f) = Err f
 -- The modules in the folders of a folder, or the first fault.
 abbrev pub IsFound : List File → List ℕ → Result (List Observed) FindFault → Type 0
 IsFound files path found = (cs : List Candidate) × AreCandidates files path cs × (found ≡ found_or (each_declared path cs))
+
+-- What a search for modules answers. A failed tree and want of memory tell nothing.
+abbrev pub Finds : List File → List ℕ → Result (List Observed) FindFault → Type 0
+Finds files path (Ok os) = IsFound files path (Ok os)
+Finds files path (Err (finds.Info place f)) = IsFound files path (Err (finds.Info place f))
+Finds files path (Err (finds.TooLarge place n)) = IsFound files path (Err (finds.TooLarge place n))
+Finds files path (Err finds.ReadFault) = Unit {0}
+Finds files path (Err finds.NoMemory) = Unit {0}

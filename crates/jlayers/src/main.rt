@@ -4,6 +4,7 @@
 mod end;
 mod finder;
 mod launching;
+mod text;
 mod words;
 
 fn main() {}
