@@ -2,9 +2,14 @@
 #![tactic(auto)]
 
 mod entry;
+mod fails;
+mod mem_sink;
 mod sink;
+mod stdout_sink;
 mod tree;
 
 pub use entry::Entry;
+pub use mem_sink::{MemEnd, MemSink};
 pub use sink::{Sink, SinkFault};
+pub use stdout_sink::StdoutSink;
 pub use tree::{Tree, TreeFault};
