@@ -3,12 +3,14 @@
 
 mod entry;
 mod fails;
+mod folder_tree;
 mod mem_sink;
 mod sink;
 mod stdout_sink;
 mod tree;
 
 pub use entry::Entry;
+pub use folder_tree::FolderTree;
 pub use mem_sink::{MemEnd, MemSink};
 pub use sink::{Sink, SinkFault};
 pub use stdout_sink::StdoutSink;
