@@ -19,7 +19,10 @@ use std::alloc::Global;
 pub fn part_below<'a>(dir: &str, path: &'a str) -> Option<&'a str>
     ensures { option_map (λ x. x.now) result ≡ below dir.now path.now }
 {
-    path.strip_prefix(dir)?.strip_prefix('/')
+    match path.strip_prefix(dir) {
+        None => None,
+        Some(rest) => rest.strip_prefix('/'),
+    }
 }
 
 /// The entries of a folder. None where no file lies below it.
@@ -75,9 +78,8 @@ fn first_entry(alloc: Global, rest: &str) -> Result<Entry, TreeFault>
 fn as_entries(alloc: Global, names: IndexMap<Name, bool>) -> Result<Vec<Entry>, TreeFault>
     ensures { MatchResult result (λ entries. (entries.items ≡ map entry_of names.entries) × IsDistinct (pointwise nat_eq) (keys names)) (λ e. e ≡ NoMemory) }
 {
-    let mut entries = Vec::new(alloc);
-    for (name, is_dir) in names {
-        entries.push(Entry { name, is_dir })?;
-    }
-    Ok(entries)
+    let entries = names
+        .into_iter()
+        .map(|(name, is_dir)| Entry { name, is_dir });
+    Ok(entries.collect(alloc)?)
 }
