@@ -1,6 +1,7 @@
 -- Whether files stand in one tree, file by file.
-use Rattle.std.proofs.Common.{◌≡◌, ℕ, List, [], ◌∷◌, map, Bool, true, false, ◌&&◌, refl, sym, ap, ◌∙◌}
-use Rattle.std.proofs.lemmas.List.Folds.{list_all-map}
+use Rattle.std.proofs.Common.{◌≡◌, ℕ, List, [], ◌∷◌, ◌++◌, map, Bool, true, false, ◌&&◌, refl, sym, ap, ◌∙◌}
+use Rattle.std.proofs.lemmas.List.Folds.{list_all-map, list_all-append}
+use Rattle.std.proofs.lemmas.Bool.{and_parts, and_from}
 use Rattle.std.specs.List.{list_all}
 use Rattle.jl_tree.specs.Files.{File}
 use Rattle.jl_tree.specs.Memory.{file_of, files_of, are_apart, is_tree}
@@ -21,3 +22,11 @@ is_no_tree rest fs f whole e h is = sym (sym is ∙ more rest fs f e ∙ ap (λ 
 pub is_still_tree : (rest fs : List (List ℕ × List ℕ)) (f : List ℕ × List ℕ) (whole : Bool) → rest ≡ f ∷ fs
     → true ≡ list_all (λ g. are_apart f.0 g.0) fs → is_tree (paths rest) ≡ whole → is_tree (paths fs) ≡ whole
 is_still_tree rest fs f whole e h is = sym (more rest fs f e ∙ ap (λ b. b && is_tree (paths fs)) (sym h)) ∙ is
+
+-- one more file at the end: it is apart from all before it
+pub is_tree-push : (ps : List (List ℕ)) (p : List ℕ) → is_tree ps ≡ true → list_all (λ q. are_apart q p) ps ≡ true → is_tree (ps ++ p ∷ []) ≡ true
+is_tree-push [] p t h = refl
+is_tree-push (x ∷ xs) p t h =
+    let a = and_parts _ _ t in
+    let b = and_parts _ _ h in
+    and_from _ _ (list_all-append (λ q. are_apart x q) xs (p ∷ []) ∙ and_from _ _ a.0 (and_from _ _ b.0 refl)) (is_tree-push xs p a.1 b.1)
