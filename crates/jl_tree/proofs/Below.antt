@@ -49,8 +49,8 @@ below_none dir path h =
 pub below_is : (dir path rest : List ℕ) → below dir path ≡ Some rest → path ≡ dir ++ 47 ∷ rest
 below_is dir path rest h = ⊎_elim
     (λ e. let s : Some (drop (length dir + 1) path) ≡ Some rest = sym (ap (λ t. cond t (Some (drop (length dir + 1) path)) None) e) ∙ h in
-          let d : drop (length dir + 1) path ≡ rest = cc in
-          begins_true dir path e ∙ ap (λ t. dir ++ 47 ∷ t) d)
+    let d : drop (length dir + 1) path ≡ rest = cc in
+    begins_true dir path e ∙ ap (λ t. dir ++ 47 ∷ t) d)
     (λ e. let s : None ≡ Some rest = sym (ap (λ t. cond t (Some (drop (length dir + 1) path)) None) e) ∙ h in absurd cc)
     (cases_Bool (starts_with nat_eq path (dir ++ 47 ∷ [])))
 

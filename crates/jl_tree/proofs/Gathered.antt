@@ -93,8 +93,8 @@ all_apart x p (q ∷ qs) h (inr m) = all_apart x p qs (and_parts _ _ h).1 m
 not_own_folder : (p : List ℕ) → is_folder_of p p ≡ false
 not_own_folder p = ⊎_elim
     (λ h. let e = begins_true p p h in
-          let l : length p ≡ length (p ++ 47 ∷ drop (length p + 1) p) = ap length e in
-          absurd (omega (arith, l, length-append p (47 ∷ drop (length p + 1) p))))
+    let l : length p ≡ length (p ++ 47 ∷ drop (length p + 1) p) = ap length e in
+    absurd (omega (arith, l, length-append p (47 ∷ drop (length p + 1) p))))
     (λ h. h) (cases_Bool (is_folder_of p p))
 
 no_folder : (ps : List (List ℕ)) (p q : List ℕ) → is_tree ps ≡ true → Member p ps → Member q ps → is_folder_of p q ≡ false
@@ -117,13 +117,14 @@ apart_from k (x ∷ xs) h (inr m) = apart_from k xs h.1 m
 distinct_names : (es : List (List ℕ × Bool)) → IsDistinct same_name (keys_of es) → AreDistinct (map (λ (e : Entry). e.name) (map entry_of es))
 unfolding IsDistinct
 distinct_names [] h = tt
-distinct_names (e ∷ es) h =
-    ( λ c. let m = from_member_map (λ (e : Entry). e.name) (map entry_of es) e.0 (member_from (map (λ (e : Entry). e.name) (map entry_of es)) e.0 c) in
-           let n = from_member_map entry_of es m.0 m.1 in
-           let k : Member n.0.0 (keys_of es) = member_map (λ (e : List ℕ × Bool). e.0) es n.0 n.1 in
-           let s : n.0.0 ≡ e.0 = sym (m.2 ∙ ap (λ (e : Entry). e.name) n.2) in
-           apart_from e.0 (keys_of es) h.0 (subst (λ x. Member x (keys_of es)) s k)
-    , distinct_names es h.1)
+distinct_names (e ∷ es) h = (
+  λ c. let m = from_member_map (λ (e : Entry). e.name) (map entry_of es) e.0 (member_from (map (λ (e : Entry). e.name) (map entry_of es)) e.0 c) in
+      let n = from_member_map entry_of es m.0 m.1 in
+      let k : Member n.0.0 (keys_of es) = member_map (λ (e : List ℕ × Bool). e.0) es n.0 n.1 in
+      let s : n.0.0 ≡ e.0 = sym (m.2 ∙ ap (λ (e : Entry). e.name) n.2) in
+      apart_from e.0 (keys_of es) h.0 (subst (λ x. Member x (keys_of es)) s k),
+  distinct_names es h.1,
+)
 
 module _ (dir : List ℕ) (whole : List File) (tree : IsTree whole) where
   -- a file of the tree says so
@@ -210,16 +211,17 @@ module _ (dir : List ℕ) (whole : List File) (tree : IsTree whole) where
 
   pub lists_some : (es : List (List ℕ × Bool)) → es ≡ names_from dir [] whole → es ≢ [] → IsDistinct same_name (keys_of es) → Lists whole dir (Some (map entry_of es))
   lists_some es is some once = record {
-      once = distinct_names es once;
-      all = λ f e c h. contains_from (map entry_of es) e (member_map entry_of es (e.name, e.is_dir) (subst (Member (e.name, e.is_dir)) (sym is) (had f e c h)));
-      only = λ e c. from e (from_member_map entry_of es e (member_from (map entry_of es) e c));
-      some = some_mapped es some;
-    }
+    once = distinct_names es once;
+    all = λ f e c h. contains_from (map entry_of es) e (member_map entry_of es (e.name, e.is_dir) (subst (Member (e.name, e.is_dir)) (sym is) (had f e c h)));
+    only = λ e c. from e (from_member_map entry_of es e (member_from (map entry_of es) e c));
+    some = some_mapped es some;
+  }
     where
       from : (e : Entry) → (p : List ℕ × Bool) × Member p es × (e ≡ entry_of p) → (f : File) × Contains whole f × (entry_in dir f.path ≡ Some e)
       from e m =
           let s = names_only whole [] (λ f m. m) (λ p m. absurd m) m.0 (subst (Member m.0) is m.1) in
           (s.0, contains_from whole s.0 s.1, s.2 ∙ ap (λ x. Some x) (sym m.2))
+
       some_mapped : (es : List (List ℕ × Bool)) → es ≢ [] → map entry_of es ≢ []
       some_mapped [] h = absurd (h refl)
       some_mapped (x ∷ xs) h = λ e. absurd cc

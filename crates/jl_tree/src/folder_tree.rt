@@ -126,9 +126,7 @@ fn content_of(rt: &impl Files, alloc: Global, path: &str, most: usize) -> io::Re
     }
     let one_past = (most as u64).saturating_add(1);
     let mut bytes = Vec::new(alloc);
-    fs::open(rt, path)?
-        .take(one_past)
-        .read_to_end(&mut bytes)?;
+    fs::open(rt, path)?.take(one_past).read_to_end(&mut bytes)?;
     if bytes.len() > most {
         return Ok(Content::Long(bytes.len() as u64));
     }
