@@ -68,6 +68,10 @@ is_wide (entries.Long n) = true
 is_wide (entries.Double n) = true
 is_wide _ = false
 
+abbrev pub is_some_wide : Option Entry → Bool
+is_some_wide (Some e) = is_wide e
+is_some_wide None = false
+
 abbrev pub is_unused : Entry → Bool
 is_unused entries.Unused = true
 is_unused _ = false

@@ -5,6 +5,7 @@ mod entry;
 mod fault;
 mod pool;
 mod reading;
+mod references;
 
 pub use entry::{Entry, Text};
 pub use fault::PoolFault;
