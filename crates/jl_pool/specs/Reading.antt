@@ -64,24 +64,24 @@ wide_at made count index bytes at = do
 -- the content behind a tag
 unfoldable pub content_at : ℕ → ℕ → ℕ → List ℕ → ℕ → Result (Entry × ℕ) PoolFault
 content_at tag count index bytes at =
-  if tag == 1 then text_at bytes index at
-  else if tag == 3 then bits_at entries.Integer 4 bytes at
-  else if tag == 4 then bits_at entries.Float 4 bytes at
-  else if tag == 5 then wide_at entries.Long count index bytes at
-  else if tag == 6 then wide_at entries.Double count index bytes at
-  else if tag == 7 then bits_at entries.Class 2 bytes at
-  else if tag == 8 then bits_at entries.String 2 bytes at
-  else if tag == 9 then pair_at entries.Field bytes at
-  else if tag == 10 then pair_at entries.Method bytes at
-  else if tag == 11 then pair_at entries.InterfaceMethod bytes at
-  else if tag == 12 then pair_at entries.NameAndType bytes at
-  else if tag == 15 then handle_at bytes at
-  else if tag == 16 then bits_at entries.MethodType 2 bytes at
-  else if tag == 17 then pair_at entries.Dynamic bytes at
-  else if tag == 18 then pair_at entries.InvokeDynamic bytes at
-  else if tag == 19 then bits_at entries.Module 2 bytes at
-  else if tag == 20 then bits_at entries.Package 2 bytes at
-  else Err (faults.Entry index)
+    if tag == 1 then text_at bytes index at
+    else if tag == 3 then bits_at entries.Integer 4 bytes at
+    else if tag == 4 then bits_at entries.Float 4 bytes at
+    else if tag == 5 then wide_at entries.Long count index bytes at
+    else if tag == 6 then wide_at entries.Double count index bytes at
+    else if tag == 7 then bits_at entries.Class 2 bytes at
+    else if tag == 8 then bits_at entries.String 2 bytes at
+    else if tag == 9 then pair_at entries.Field bytes at
+    else if tag == 10 then pair_at entries.Method bytes at
+    else if tag == 11 then pair_at entries.InterfaceMethod bytes at
+    else if tag == 12 then pair_at entries.NameAndType bytes at
+    else if tag == 15 then handle_at bytes at
+    else if tag == 16 then bits_at entries.MethodType 2 bytes at
+    else if tag == 17 then pair_at entries.Dynamic bytes at
+    else if tag == 18 then pair_at entries.InvokeDynamic bytes at
+    else if tag == 19 then bits_at entries.Module 2 bytes at
+    else if tag == 20 then bits_at entries.Package 2 bytes at
+    else Err (faults.Entry index)
 
 -- the last of them is a Long or a Double
 abbrev pub ends_wide : List Entry → Bool
@@ -90,8 +90,8 @@ ends_wide es = is_some_wide (slice_get es (length es - 1))
 -- The next entry, which has the index of how many stand before it. The index behind a Long or a Double is unused.
 unfoldable pub entry_at : ℕ → List ℕ → List Entry → ℕ → Result (Entry × ℕ) PoolFault
 entry_at count bytes done at = if ends_wide done then Ok (entries.Unused, at) else (do
-    tag ← number_at faults.Short 1 bytes at
-    content_at tag.0 count (length done) bytes tag.1)
+  tag ← number_at faults.Short 1 bytes at
+  content_at tag.0 count (length done) bytes tag.1)
 
 -- the least index of an entry that refers wrongly is a fault
 abbrev pub refers_or : Option ℕ → List Entry × ℕ → Result (List Entry × ℕ) PoolFault

@@ -11,3 +11,6 @@ pub use entry::{Entry, Text};
 pub use fault::PoolFault;
 pub use pool::Pool;
 pub use reading::read_pool;
+
+#[cfg(test)]
+mod tests;

@@ -11,7 +11,7 @@ use crate::entry::{Entry, Text};
 use crate::fault::PoolFault;
 use crate::pool::Pool;
 use crate::references::wrong_at;
-use jl_names::{plain_text, units_of, TextFault};
+use jl_names::{TextFault, plain_text, units_of};
 use jl_prim::Name;
 use jl_reading::{byte_at, is_whole, u16_at, u32_at, u64_at};
 use std::alloc::Global;
@@ -33,12 +33,7 @@ fn text_of(alloc: Global, bytes: &[u8], index: u16) -> Result<Text, PoolFault>
 
 /// A length, and a text of so many bytes.
 #[tactic(auto, unfolding(crate::specs::Reading::text_at))]
-fn text_at(
-    alloc: Global,
-    bytes: &[u8],
-    index: u16,
-    at: usize,
-) -> Result<(Entry, usize), PoolFault>
+fn text_at(alloc: Global, bytes: &[u8], index: u16, at: usize) -> Result<(Entry, usize), PoolFault>
     requires { at ≤ length bytes.now }
     ensures exact { Gives told (λ x. x) result (text_read bytes.now index at) }
     ensures within { IfOk result (λ x. x.1 ≤ length bytes.now) }
