@@ -5,6 +5,7 @@ ghost use Rattle.jl_logic.specs.Answers.{Gives};
 ghost use Rattle.jl_reading.specs.Reading.{each_at};
 ghost use Rattle.jl_names.specs.Text.{units_read};
 ghost use Rattle.jl_pool.specs.Reading.{told, units_or, text_at as text_read, indices_at as indices_read, eight_at as eight_read, handle_at as handle_read, content_at as content_read, ends_wide as ends_wide_entry, entry_at as entry_read, refers_or, pool_at};
+ghost use Rattle.jl_pool.specs.Spelling.{StandsPool};
 ghost use Rattle.jl_pool.specs.declared.entry.Entry.TheVariants as entries;
 
 use crate::entry::{Entry, Text};
@@ -184,6 +185,8 @@ pub fn read_pool(alloc: Global, bytes: &[u8], at: usize) -> Result<(Pool, usize)
     requires { at ≤ length bytes.now }
     ensures exact { Gives told (λ x. x) result (pool_at bytes.now at) }
     ensures within { IfOk result (λ x. x.1 ≤ length bytes.now) }
+    ensures found { IfOk result (λ x. StandsPool bytes.now at x.0 x.1) }
+    ensures only { (pool : List Entry) (next : ℕ) → StandsPool bytes.now at pool next → Gives told (λ x. x) result (Ok (pool, next)) }
 {
     let (count, at) = u16_at::<PoolFault>(bytes, at)?;
     let (entries, next) = entries_at(alloc, count, bytes, at)?;
