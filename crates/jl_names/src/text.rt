@@ -1,9 +1,9 @@
 //! Modified UTF-8 to units and units to UTF-8.
 
-ghost use Rattle.std.specs.Prelude.{◌≡◌, ◌≤◌, ◌<◌, length, IfOk, IsTrue, encode_utf8};
+ghost use Rattle.std.specs.Prelude.{◌≡◌, ◌≤◌, ◌<◌, ℕ, List, length, Ok, IfOk, IsTrue, encode_utf8};
 ghost use Rattle.std.specs.String.{string_bytes};
 ghost use Rattle.jl_logic.specs.Answers.{Gives};
-ghost use Rattle.jl_names.specs.Text.{units_read, unit_at, told, plain, has_no_lone_surrogate};
+ghost use Rattle.jl_names.specs.Text.{units_read, unit_at, AreUnits, text_bytes, told, plain, has_no_lone_surrogate};
 ghost use Rattle.jl_names.specs.Text as texts;
 
 use crate::fault::TextFault;
@@ -14,6 +14,17 @@ use std::alloc::Global;
 ///
 /// `BadText(at)` comes exactly at the first byte, or at the end, with which no unit begins or goes on.
 pub fn units_of(alloc: Global, bytes: &[u8]) -> Result<Units, TextFault>
+    // What is read is spelled so.
+    ensures found { IfOk result (λ units. AreUnits units × (text_bytes units ≡ bytes.now)) }
+    // What is spelled so is read, unless memory runs out.
+    ensures only { (units : List ℕ) → AreUnits units → text_bytes units ≡ bytes.now → Gives told (λ all. all) result (Ok units) }
+    // Which fault it is.
+    ensures exact { Gives told (λ units. units) result (units_read bytes.now) }
+{
+    all_units(alloc, bytes)
+}
+
+fn all_units(alloc: Global, bytes: &[u8]) -> Result<Units, TextFault>
     ensures { Gives told (λ units. units) result (units_read bytes.now) }
 {
     let mut units = Vec::new(alloc);
