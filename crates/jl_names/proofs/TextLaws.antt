@@ -1,8 +1,8 @@
 -- The units of a text: what is read is spelled so, and what is spelled so is read.
-use Rattle.std.proofs.Common.{◌≡◌, ℕ, zero, suc, ◌+◌, ◌-◌, ◌*◌, ◌/◌, ◌%◌, ◌<◌, ◌≤◌, Bool, true, false, not, cond, ◌&&◌, ◌||◌, ltb, leb, eqb, ◌==◌, nat_lt, nat_le, List, [], ◌∷◌, ◌++◌, length, take, drop, get_or, slice_index, Result, Ok, Err, refl, sym, ap, subst, ◌∙◌, arith, inl, inr}
+use Rattle.std.proofs.Common.{◌≡◌, ℕ, zero, suc, ◌+◌, ◌-◌, ◌*◌, ◌/◌, ◌%◌, ◌<◌, ◌≤◌, true, false, not, cond, ◌&&◌, ◌||◌, ltb, leb, eqb, nat_lt, nat_le, List, [], ◌∷◌, length, take, drop, get_or, slice_index, Result, Ok, Err, refl, sym, ap, subst, ◌∙◌, arith, inl, inr}
 use Rattle.std.specs.Prelude.{◌⊎◌}
-use Rattle.std.proofs.lemmas.Bool.{cond_both, ltb-true, ltb-false, leb-true, lt-ltb, le-ltb, le-leb, eqb-true, eqb-false, eq-eqb, ne_eqb, and_parts, and_cases, and_from, and_left, and_right, or_cases, or_left, or_right, or_from, not-false, cases_lt, cases_eq, cases_Bool}
-use Rattle.std.proofs.lemmas.List.{length-append, drop_more, get_or-drop, take_all}
+use Rattle.std.proofs.lemmas.Bool.{cond_both, ltb-true, ltb-false, leb-true, lt-ltb, le-ltb, le-leb, eqb-true, eq-eqb, ne_eqb, and_parts, and_cases, and_from, and_right, or_cases, or_right, or_from, not-false, cases_eq}
+use Rattle.std.proofs.lemmas.List.{drop_more, get_or-drop, take_all}
 use Rattle.std.proofs.lemmas.List.Concat.{flat_map-cons}
 use Rattle.jl_reading.specs.Reading.{◌>>=◌, Stands, IsBytes}
 use Rattle.jl_reading.proofs.Steps.{bind_ok, guard_ok, ok_is}
@@ -20,13 +20,13 @@ two_stand : (bytes : List ℕ) (at : ℕ) → at + 1 < length bytes → Stands b
 two_stand bytes at lt =
     let place : (at + 1) + 1 ≡ at + 2 = omega arith in
     subst (λ (n : ℕ). Stands bytes at (slice_index bytes at ∷ slice_index bytes (at + 1) ∷ []) n) place
-      (Stands-then bytes at (slice_index bytes at ∷ []) (at + 1) (slice_index bytes (at + 1) ∷ []) ((at + 1) + 1) (byte_stands bytes at (omega arith)) (byte_stands bytes (at + 1) lt))
+    (Stands-then bytes at (slice_index bytes at ∷ []) (at + 1) (slice_index bytes (at + 1) ∷ []) ((at + 1) + 1) (byte_stands bytes at (omega arith)) (byte_stands bytes (at + 1) lt))
 
 three_stand : (bytes : List ℕ) (at : ℕ) → at + 2 < length bytes → Stands bytes at (slice_index bytes at ∷ slice_index bytes (at + 1) ∷ slice_index bytes (at + 2) ∷ []) (at + 3)
 three_stand bytes at lt =
     let place : (at + 2) + 1 ≡ at + 3 = omega arith in
     subst (λ (n : ℕ). Stands bytes at (slice_index bytes at ∷ slice_index bytes (at + 1) ∷ slice_index bytes (at + 2) ∷ []) n) place
-      (Stands-then bytes at (slice_index bytes at ∷ slice_index bytes (at + 1) ∷ []) (at + 2) (slice_index bytes (at + 2) ∷ []) ((at + 2) + 1) (two_stand bytes at (omega arith)) (byte_stands bytes (at + 2) lt))
+    (Stands-then bytes at (slice_index bytes at ∷ slice_index bytes (at + 1) ∷ []) (at + 2) (slice_index bytes (at + 2) ∷ []) ((at + 2) + 1) (two_stand bytes at (omega arith)) (byte_stands bytes (at + 2) lt))
 
 record Begins (bytes : List ℕ) (at x : ℕ) (xs : List ℕ) (next : ℕ) : Type 0 where
   pub here : slice_index bytes at ≡ x
@@ -141,27 +141,27 @@ unit_stands bytes at u next lt =
     let second : Result (ℕ × ℕ) TextFault = cond (begins_two b) (Ok ((b - 192) * 64 + (c - 128), at + 2)) third in
     let first : Result (ℕ × ℕ) TextFault = cond (not (ltb (at + 1) (length bytes) && may_follow b c)) (Err (BadText (at + 1))) second in
     cond_both (ltb 0 b && ltb b 128) (Ok (b, at + 1)) (cond (not (begins_two b || begins_three b)) (Err (BadText at)) first) (λ r. r ≡ Ok (u, next) → UnitStands bytes at u next)
-      (λ t e.
-        let below = ltb-true b 128 (and_parts (ltb 0 b) (ltb b 128) t).1 in
-        let spelled : unit_bytes b ≡ b ∷ [] = rw t refl in
-        ok_pair bytes at b (at + 1) u next (subst (λ (text : List ℕ). Stands bytes at text (at + 1)) (sym spelled) (byte_stands bytes at lt), omega arith) e)
-      (λ t e.
-        let g = guard_ok (not (begins_two b || begins_three b)) (BadText at) first (u, next) e in
-        let h = guard_ok (not (ltb (at + 1) (length bytes) && may_follow b c)) (BadText (at + 1)) second (u, next) g.1 in
-        let more = and_parts (ltb (at + 1) (length bytes)) (may_follow b c) (not-false (ltb (at + 1) (length bytes) && may_follow b c) h.0) in
-        let far : at + 1 < length bytes = ltb-true (at + 1) (length bytes) more.0 in
-        cond_both (begins_two b) (Ok ((b - 192) * 64 + (c - 128), at + 2)) third (λ r. r ≡ Ok (u, next) → UnitStands bytes at u next)
-          (λ is_two k.
-            let s = two_spell b c ((b - 192) * 64 + (c - 128)) (two_range b c is_two more.1) refl in
-            ok_pair bytes at ((b - 192) * 64 + (c - 128)) (at + 2) u next (subst (λ (text : List ℕ). Stands bytes at text (at + 2)) (sym s.0) (two_stand bytes at far), s.1) k)
-          (λ not_two k.
-            let begun : begins_three b ≡ true = elim (or_cases (begins_two b) (begins_three b) (not-false (begins_two b || begins_three b) g.0)) [ | inl h2 ↦ absurd (cc (h2, not_two)) | inr h3 ↦ h3 ] in
-            let i = guard_ok (not (ltb (at + 2) (length bytes) && is_tail d)) (BadText (at + 2)) (Ok ((b - 224) * 4096 + (c - 128) * 64 + (d - 128), at + 3)) (u, next) k in
-            let last = and_parts (ltb (at + 2) (length bytes)) (is_tail d) (not-false (ltb (at + 2) (length bytes) && is_tail d) i.0) in
-            let tail = between 128 192 d last.1 in
-            let s = three_spell b c d ((b - 224) * 4096 + (c - 128) * 64 + (d - 128)) (three_range b c begun more.1) tail.0 tail.1 refl in
-            ok_pair bytes at ((b - 224) * 4096 + (c - 128) * 64 + (d - 128)) (at + 3) u next (subst (λ (text : List ℕ). Stands bytes at text (at + 3)) (sym s.0) (three_stand bytes at (ltb-true (at + 2) (length bytes) last.0)), s.1) i.1)
-          h.1)
+    (λ t e.
+    let below = ltb-true b 128 (and_parts (ltb 0 b) (ltb b 128) t).1 in
+    let spelled : unit_bytes b ≡ b ∷ [] = rw t refl in
+    ok_pair bytes at b (at + 1) u next (subst (λ (text : List ℕ). Stands bytes at text (at + 1)) (sym spelled) (byte_stands bytes at lt), omega arith) e)
+    (λ t e.
+    let g = guard_ok (not (begins_two b || begins_three b)) (BadText at) first (u, next) e in
+    let h = guard_ok (not (ltb (at + 1) (length bytes) && may_follow b c)) (BadText (at + 1)) second (u, next) g.1 in
+    let more = and_parts (ltb (at + 1) (length bytes)) (may_follow b c) (not-false (ltb (at + 1) (length bytes) && may_follow b c) h.0) in
+    let far : at + 1 < length bytes = ltb-true (at + 1) (length bytes) more.0 in
+    cond_both (begins_two b) (Ok ((b - 192) * 64 + (c - 128), at + 2)) third (λ r. r ≡ Ok (u, next) → UnitStands bytes at u next)
+    (λ is_two k.
+    let s = two_spell b c ((b - 192) * 64 + (c - 128)) (two_range b c is_two more.1) refl in
+    ok_pair bytes at ((b - 192) * 64 + (c - 128)) (at + 2) u next (subst (λ (text : List ℕ). Stands bytes at text (at + 2)) (sym s.0) (two_stand bytes at far), s.1) k)
+    (λ not_two k.
+    let begun : begins_three b ≡ true = elim (or_cases (begins_two b) (begins_three b) (not-false (begins_two b || begins_three b) g.0)) [ inl h2 ↦ absurd (cc (h2, not_two)) | inr h3 ↦ h3 ] in
+    let i = guard_ok (not (ltb (at + 2) (length bytes) && is_tail d)) (BadText (at + 2)) (Ok ((b - 224) * 4096 + (c - 128) * 64 + (d - 128), at + 3)) (u, next) k in
+    let last = and_parts (ltb (at + 2) (length bytes)) (is_tail d) (not-false (ltb (at + 2) (length bytes) && is_tail d) i.0) in
+    let tail = between 128 192 d last.1 in
+    let s = three_spell b c d ((b - 224) * 4096 + (c - 128) * 64 + (d - 128)) (three_range b c begun more.1) tail.0 tail.1 refl in
+    ok_pair bytes at ((b - 224) * 4096 + (c - 128) * 64 + (d - 128)) (at + 3) u next (subst (λ (text : List ℕ). Stands bytes at text (at + 3)) (sym s.0) (three_stand bytes at (ltb-true (at + 2) (length bytes) last.0)), s.1) i.1)
+    h.1)
 
 one_read : (bytes : List ℕ) (at b : ℕ) → slice_index bytes at ≡ b → (ltb 0 b && ltb b 128) ≡ true → unit_at bytes at ≡ Ok (b, at + 1)
 unfolding unit_at
@@ -182,11 +182,12 @@ two_begins u t lt =
     elim (cases_eq u 0) [
       | inl e ↦ rw e (refl, refl)
       | inr more ↦
-          let large : 128 ≤ u = elim (and_cases (ltb 0 u) (ltb u 128) t) [ | inl z ↦ let le = ltb-false 0 u z in absurd (more (omega arith)) | inr z ↦ ltb-false u 128 z ] in
+          let large : 128 ≤ u = elim (and_cases (ltb 0 u) (ltb u 128) t) [ inl z ↦ let le = ltb-false 0 u z in absurd (more (omega arith)) | inr z ↦ ltb-false u 128 z ] in
           let not_192 : eqb (192 + u / 64) 192 ≡ false = ne_eqb (192 + u / 64) 192 (λ e. absurd (omega arith)) in
-          let not_224 : eqb (192 + u / 64) 224 ≡ false = ne_eqb (192 + u / 64) 224 (λ e. absurd (omega arith)) in
-          (or_right (eqb (192 + u / 64) 192) (leb 194 (192 + u / 64) && ltb (192 + u / 64) 224) (is_between 194 224 (192 + u / 64) (omega arith) (omega arith)),
-           rw (not_192, not_224) (is_between 128 192 (128 + u % 64) (omega arith) (omega arith)))
+          let not_224 : eqb (192 + u / 64) 224 ≡ false = ne_eqb (192 + u / 64) 224 (λ e. absurd (omega arith)) in (
+            or_right (eqb (192 + u / 64) 192) (leb 194 (192 + u / 64) && ltb (192 + u / 64) 224) (is_between 194 224 (192 + u / 64) (omega arith) (omega arith)),
+            rw (not_192, not_224) (is_between 128 192 (128 + u % 64) (omega arith) (omega arith)),
+          )
     ]
 
 record ThreeBegins (u : ℕ) : Type 0 where
@@ -213,44 +214,44 @@ three_begins u le lt =
 unit_again : (bytes : List ℕ) (at u next : ℕ) → u < 65536 → Stands bytes at (unit_bytes u) next → unit_at bytes at ≡ Ok (u, next)
 unit_again bytes at u next below =
     cond_both (ltb 0 u && ltb u 128) (u ∷ []) (cond (ltb u 2048) ((192 + u / 64) ∷ (128 + u % 64) ∷ []) ((224 + u / 4096) ∷ (128 + u / 64 % 64) ∷ (128 + u % 64) ∷ []))
-      (λ text. Stands bytes at text next → unit_at bytes at ≡ Ok (u, next))
-      (λ t s.
-        let p = begins bytes at u [] next s in
-        let ends : at + 1 ≡ next = omega (arith, s.ends) in
-        one_read bytes at u p.here t ∙ rw ends refl)
-      (λ t. cond_both (ltb u 2048) ((192 + u / 64) ∷ (128 + u % 64) ∷ []) ((224 + u / 4096) ∷ (128 + u / 64 % 64) ∷ (128 + u % 64) ∷ [])
-        (λ text. Stands bytes at text next → unit_at bytes at ≡ Ok (u, next))
-        (λ small s.
-          let b = 192 + u / 64 in
-          let c = 128 + u % 64 in
-          let p = begins bytes at b (c ∷ []) next s in
-          let q = begins bytes (at + 1) c [] next p.rest in
-          let begun = two_begins u t (ltb-true u 2048 small) in
-          let ends : at + 2 ≡ next = omega (arith, s.ends) in
-          let back : (b - 192) * 64 + (c - 128) ≡ u = omega arith in
-          let high : (ltb 0 b && ltb b 128) ≡ false = and_right (ltb 0 b) (ltb b 128) (le-ltb b 128 (omega arith)) in
-          two_read bytes at b c p.here q.here q.within high begun.0 begun.1 ∙ rw (back, ends) refl)
-        (λ large s.
-          let b = 224 + u / 4096 in
-          let c = 128 + u / 64 % 64 in
-          let d = 128 + u % 64 in
-          let p = begins bytes at b (c ∷ d ∷ []) next s in
-          let q = begins bytes (at + 1) c (d ∷ []) next p.rest in
-          let place : (at + 1) + 1 ≡ at + 2 = omega arith in
-          let r = begins bytes (at + 2) d [] next (subst (λ (n : ℕ). Stands bytes n (d ∷ []) next) place q.rest) in
-          let begun = three_begins u (ltb-false u 2048 large) below in
-          let ends : at + 3 ≡ next = omega (arith, s.ends) in
-          let back : (b - 224) * 4096 + (c - 128) * 64 + (d - 128) ≡ u = omega arith in
-          let high : (ltb 0 b && ltb b 128) ≡ false = and_right (ltb 0 b) (ltb b 128) (le-ltb b 128 (omega arith)) in
-          three_read bytes at b c d p.here q.here r.here r.within high begun.no_two begun.first begun.second begun.third ∙ rw (back, ends) refl))
+    (λ text. Stands bytes at text next → unit_at bytes at ≡ Ok (u, next))
+    (λ t s.
+    let p = begins bytes at u [] next s in
+    let ends : at + 1 ≡ next = omega (arith, s.ends) in
+    one_read bytes at u p.here t ∙ rw ends refl)
+    (λ t. cond_both (ltb u 2048) ((192 + u / 64) ∷ (128 + u % 64) ∷ []) ((224 + u / 4096) ∷ (128 + u / 64 % 64) ∷ (128 + u % 64) ∷ [])
+    (λ text. Stands bytes at text next → unit_at bytes at ≡ Ok (u, next))
+    (λ small s.
+    let b = 192 + u / 64 in
+    let c = 128 + u % 64 in
+    let p = begins bytes at b (c ∷ []) next s in
+    let q = begins bytes (at + 1) c [] next p.rest in
+    let begun = two_begins u t (ltb-true u 2048 small) in
+    let ends : at + 2 ≡ next = omega (arith, s.ends) in
+    let back : (b - 192) * 64 + (c - 128) ≡ u = omega arith in
+    let high : (ltb 0 b && ltb b 128) ≡ false = and_right (ltb 0 b) (ltb b 128) (le-ltb b 128 (omega arith)) in
+    two_read bytes at b c p.here q.here q.within high begun.0 begun.1 ∙ rw (back, ends) refl)
+    (λ large s.
+    let b = 224 + u / 4096 in
+    let c = 128 + u / 64 % 64 in
+    let d = 128 + u % 64 in
+    let p = begins bytes at b (c ∷ d ∷ []) next s in
+    let q = begins bytes (at + 1) c (d ∷ []) next p.rest in
+    let place : (at + 1) + 1 ≡ at + 2 = omega arith in
+    let r = begins bytes (at + 2) d [] next (subst (λ (n : ℕ). Stands bytes n (d ∷ []) next) place q.rest) in
+    let begun = three_begins u (ltb-false u 2048 large) below in
+    let ends : at + 3 ≡ next = omega (arith, s.ends) in
+    let back : (b - 224) * 4096 + (c - 128) * 64 + (d - 128) ≡ u = omega arith in
+    let high : (ltb 0 b && ltb b 128) ≡ false = and_right (ltb 0 b) (ltb b 128) (le-ltb b 128 (omega arith)) in
+    three_read bytes at b c d p.here q.here r.here r.within high begun.no_two begun.first begun.second begun.third ∙ rw (back, ends) refl))
 
 -- ---- all units
 
 unit_long : (u : ℕ) → 0 < length (unit_bytes u)
 unit_long u =
     cond_both (ltb 0 u && ltb u 128) (u ∷ []) (cond (ltb u 2048) ((192 + u / 64) ∷ (128 + u % 64) ∷ []) ((224 + u / 4096) ∷ (128 + u / 64 % 64) ∷ (128 + u % 64) ∷ [])) (λ text. 0 < length text)
-      (λ t. omega arith)
-      (λ t. cond_both (ltb u 2048) ((192 + u / 64) ∷ (128 + u % 64) ∷ []) ((224 + u / 4096) ∷ (128 + u / 64 % 64) ∷ (128 + u % 64) ∷ []) (λ text. 0 < length text) (λ s. omega arith) (λ s. omega arith))
+    (λ t. omega arith)
+    (λ t. cond_both (ltb u 2048) ((192 + u / 64) ∷ (128 + u % 64) ∷ []) ((224 + u / 4096) ∷ (128 + u / 64 % 64) ∷ (128 + u % 64) ∷ []) (λ text. 0 < length text) (λ s. omega arith) (λ s. omega arith))
 
 abbrev AllStand : List ℕ → ℕ → List ℕ → Type 0
 AllStand bytes at us = Stands bytes at (text_bytes us) (length bytes) × AreUnits us
@@ -264,14 +265,14 @@ unfolding units_from
 units_stand zero bytes at us le enough e = none_stand bytes at us (omega arith) e
 units_stand (suc n) bytes at us le enough h =
     cond_both (ltb at (length bytes)) (unit_at bytes at >>= λ u. units_from n bytes u.1 >>= λ vs. Ok (u.0 ∷ vs)) (Ok []) (λ r. r ≡ Ok us → AllStand bytes at us)
-      (λ t e.
-        let a = bind_ok (unit_at bytes at) (λ u. units_from n bytes u.1 >>= λ vs. Ok (u.0 ∷ vs)) us e in
-        let b = bind_ok (units_from n bytes a.0.1) (λ vs. Ok (a.0.0 ∷ vs)) us a.2 in
-        let s = unit_stands bytes at a.0.0 a.0.1 (ltb-true at (length bytes) t) a.1 in
-        let rest = units_stand n bytes a.0.1 b.0 s.0.within (omega (arith, s.0.ends, unit_long a.0.0)) b.1 in
-        subst (λ (vs : List ℕ). AllStand bytes at vs) (ok_is (a.0.0 ∷ b.0) us b.2)
-          (rw (flat_map-cons unit_bytes a.0.0 b.0) (Stands-then bytes at (unit_bytes a.0.0) a.0.1 (text_bytes b.0) (length bytes) s.0 rest.0), (s.1, rest.1)))
-      (λ t e. let past = ltb-false at (length bytes) t in none_stand bytes at us (omega arith) e) h
+    (λ t e.
+    let a = bind_ok (unit_at bytes at) (λ u. units_from n bytes u.1 >>= λ vs. Ok (u.0 ∷ vs)) us e in
+    let b = bind_ok (units_from n bytes a.0.1) (λ vs. Ok (a.0.0 ∷ vs)) us a.2 in
+    let s = unit_stands bytes at a.0.0 a.0.1 (ltb-true at (length bytes) t) a.1 in
+    let rest = units_stand n bytes a.0.1 b.0 s.0.within (omega (arith, s.0.ends, unit_long a.0.0)) b.1 in
+    subst (λ (vs : List ℕ). AllStand bytes at vs) (ok_is (a.0.0 ∷ b.0) us b.2)
+    (rw (flat_map-cons unit_bytes a.0.0 b.0) (Stands-then bytes at (unit_bytes a.0.0) a.0.1 (text_bytes b.0) (length bytes) s.0 rest.0), (s.1, rest.1)))
+    (λ t e. let past = ltb-false at (length bytes) t in none_stand bytes at us (omega arith) e) h
 
 units_back : (us : List ℕ) (n : ℕ) (bytes : List ℕ) (at : ℕ) → length bytes ≤ at + n → AreUnits us → Stands bytes at (text_bytes us) (length bytes) → units_from n bytes at ≡ Ok us
 unfolding units_from

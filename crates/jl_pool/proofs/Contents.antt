@@ -40,7 +40,7 @@ bits_stand made tag k m thin bytes count index at x next fits e =
     let a = bind_ok (number_at faults.Short k bytes at) (λ n. Ok (made n.0, n.1)) (x, next) e in
     let t = number_stands faults.Short k bytes at a.0.0 a.0.1 fits a.1 in
     subst (λ (p : Entry × ℕ). Content bytes tag count index at p.0 p.1) (ok_is (made a.0.0, a.0.1) (x, next) a.2)
-      (record { body = big_bytes k a.0.0; spelled = m.spelled a.0.0; stands = t.0; fits = m.fits a.0.0 t.1; used = m.used a.0.0; narrow = λ w. absurd (cc (thin a.0.0, w)) })
+    (record { body = big_bytes k a.0.0; spelled = m.spelled a.0.0; stands = t.0; fits = m.fits a.0.0 t.1; used = m.used a.0.0; narrow = λ w. absurd (cc (thin a.0.0, w)) })
 
 pub bits_again : (made : ℕ → Entry) (k : ℕ) (bytes : List ℕ) (at n next : ℕ) → n < 256 ^ k → Stands bytes at (big_bytes k n) next → bits_at made k bytes at ≡ Ok (made n, next)
 unfolding bits_at
@@ -54,7 +54,7 @@ wide_stands made tag m bytes count index at x next fits e =
     let g = guard_ok (eqb (index + 1) count) (faults.Entry index) (number_at faults.Short 8 bytes at) a.0 a.1 in
     let t = number_stands faults.Short 8 bytes at a.0.0 a.0.1 fits g.1 in
     subst (λ (p : Entry × ℕ). Content bytes tag count index at p.0 p.1) (ok_is (made a.0.0, a.0.1) (x, next) a.2)
-      (record { body = big_bytes 8 a.0.0; spelled = m.spelled a.0.0; stands = t.0; fits = m.fits a.0.0 t.1; used = m.used a.0.0; narrow = λ w. g.0 })
+    (record { body = big_bytes 8 a.0.0; spelled = m.spelled a.0.0; stands = t.0; fits = m.fits a.0.0 t.1; used = m.used a.0.0; narrow = λ w. g.0 })
 
 pub wide_again : (made : ℕ → Entry) (bytes : List ℕ) (count index at n next : ℕ) → (index + 1 == count) ≡ false → n < 256 ^ 8 → Stands bytes at (big_bytes 8 n) next
     → wide_at made count index bytes at ≡ Ok (made n, next)
@@ -79,15 +79,15 @@ pair_stands made tag m bytes count index at x next fits e =
     let s = number_stands faults.Short 2 bytes at b.0.0 b.0.1 fits b.1 in
     let t = number_stands faults.Short 2 bytes b.0.1 c.0.0 c.0.1 fits c.1 in
     subst (λ (p : Entry × ℕ). Content bytes tag count index at p.0 p.1) (ok_is (made a.0.0.0 a.0.0.1, a.0.1) (x, next) a.2)
-      (subst (λ (p : (ℕ × ℕ) × ℕ). Content bytes tag count index at (made p.0.0 p.0.1) p.1) (ok_is ((b.0.0, c.0.0), c.0.1) a.0 c.2)
-      (record {
-        body = two b.0.0 ++ two c.0.0;
-        spelled = m.spelled b.0.0 c.0.0;
-        stands = Stands-then bytes at (two b.0.0) b.0.1 (two c.0.0) c.0.1 s.0 t.0;
-        fits = m.fits b.0.0 c.0.0 s.1 t.1;
-        used = m.used b.0.0 c.0.0;
-        narrow = λ w. absurd (cc (m.thin b.0.0 c.0.0, w));
-      }))
+    (subst (λ (p : (ℕ × ℕ) × ℕ). Content bytes tag count index at (made p.0.0 p.0.1) p.1) (ok_is ((b.0.0, c.0.0), c.0.1) a.0 c.2)
+    (record {
+      body = two b.0.0 ++ two c.0.0;
+      spelled = m.spelled b.0.0 c.0.0;
+      stands = Stands-then bytes at (two b.0.0) b.0.1 (two c.0.0) c.0.1 s.0 t.0;
+      fits = m.fits b.0.0 c.0.0 s.1 t.1;
+      used = m.used b.0.0 c.0.0;
+      narrow = λ w. absurd (cc (m.thin b.0.0 c.0.0, w));
+    }))
 
 pub pair_again : (made : ℕ → ℕ → Entry) (bytes : List ℕ) (at i j next : ℕ) → i < 65536 → j < 65536 → Stands bytes at (two i ++ two j) next → pair_at made bytes at ≡ Ok (made i j, next)
 unfolding pair_at indices_at
@@ -103,14 +103,14 @@ handle_stands bytes count index at x next fits e =
     let s = number_stands faults.Short 1 bytes at b.0.0 b.0.1 fits b.1 in
     let t = number_stands faults.Short 2 bytes b.0.1 c.0.0 c.0.1 fits c.1 in
     subst (λ (p : Entry × ℕ). Content bytes 15 count index at p.0 p.1) (ok_is (entries.MethodHandle b.0.0 c.0.0, c.0.1) (x, next) c.2)
-      (record {
-        body = big_bytes 1 b.0.0 ++ two c.0.0;
-        spelled = refl;
-        stands = Stands-then bytes at (big_bytes 1 b.0.0) b.0.1 (two c.0.0) c.0.1 s.0 t.0;
-        fits = (s.1, t.1);
-        used = refl;
-        narrow = λ w. absurd cc;
-      })
+    (record {
+      body = big_bytes 1 b.0.0 ++ two c.0.0;
+      spelled = refl;
+      stands = Stands-then bytes at (big_bytes 1 b.0.0) b.0.1 (two c.0.0) c.0.1 s.0 t.0;
+      fits = (s.1, t.1);
+      used = refl;
+      narrow = λ w. absurd cc;
+    })
 
 pub handle_again : (bytes : List ℕ) (at kind i next : ℕ) → kind < 256 → i < 65536 → Stands bytes at (big_bytes 1 kind ++ two i) next → handle_at bytes at ≡ Ok (entries.MethodHandle kind i, next)
 unfolding handle_at
@@ -139,14 +139,14 @@ text_stands bytes count index at x next fits e =
     let size : length (text_bytes b.0) ≡ len = ap length t.1 ∙ omega (arith, length-take len (drop first bytes), length-drop first bytes) in
     let counted : Stands bytes at (two (length (text_bytes b.0))) first = subst (λ (n : ℕ). Stands bytes at (two n) first) (sym size) s.0 in
     subst (λ (p : Entry × ℕ). Content bytes 1 count index at p.0 p.1) (ok_is (entries.Utf8 b.0, first + len) (x, next) b.2)
-      (record {
-        body = two (length (text_bytes b.0)) ++ text_bytes b.0;
-        spelled = refl;
-        stands = Stands-then bytes at (two (length (text_bytes b.0))) first (text_bytes b.0) (first + len) counted there;
-        fits = (t.0, omega (arith, size, s.1));
-        used = refl;
-        narrow = λ w. absurd cc;
-      })
+    (record {
+      body = two (length (text_bytes b.0)) ++ text_bytes b.0;
+      spelled = refl;
+      stands = Stands-then bytes at (two (length (text_bytes b.0))) first (text_bytes b.0) (first + len) counted there;
+      fits = (t.0, omega (arith, size, s.1));
+      used = refl;
+      narrow = λ w. absurd cc;
+    })
 
 pub text_again : (bytes : List ℕ) (index at : ℕ) (units : List ℕ) (next : ℕ) → EntryFits (entries.Utf8 units) → Stands bytes at (two (length (text_bytes units)) ++ text_bytes units) next
     → text_at bytes index at ≡ Ok (entries.Utf8 units, next)
@@ -166,7 +166,7 @@ pick : {bytes : List ℕ} {count index at : ℕ} {x : Entry} {next : ℕ} (tag t
     → cond (eqb tag t) p q ≡ Ok (x, next) → Content bytes tag count index at x next
 pick {bytes} {count} {index} {at} {x} {next} tag t p q here there =
     cond_both (eqb tag t) p q (λ r. r ≡ Ok (x, next) → Content bytes tag count index at x next)
-      (λ e h. subst (λ (u : ℕ). Content bytes u count index at x next) (sym (eqb-true tag t e)) (here h)) (λ e h. there h)
+    (λ e h. subst (λ (u : ℕ). Content bytes u count index at x next) (sym (eqb-true tag t e)) (here h)) (λ e h. there h)
 
 pub content_stands : (bytes : List ℕ) (tag count index at : ℕ) (x : Entry) (next : ℕ) → IsBytes bytes → content_at tag count index bytes at ≡ Ok (x, next) → Content bytes tag count index at x next
 unfolding content_at

@@ -28,15 +28,15 @@ pub entry_stands : (count : ℕ) (bytes : List ℕ) → IsBytes bytes → UnitSt
 unfolding entry_at
 entry_stands count bytes fits done at x next le =
     cond_both (ends_wide done) (Ok (entries.Unused, at)) (number_at faults.Short 1 bytes at >>= λ tag. content_at tag.0 count (length done) bytes tag.1)
-      (λ r. r ≡ Ok (x, next) → Stands bytes at (entry_bytes x) next × Fit count done x)
-      (λ w e. subst (λ (p : Entry × ℕ). Stands bytes at (entry_bytes p.0) p.1 × Fit count done p.0) (ok_is (entries.Unused, at) (x, next) e)
-        (Stands-nothing bytes at le, record { fits = tt; unused = sym w; narrow = λ h. absurd cc }))
-      (λ w e.
-        let a = bind_ok (number_at faults.Short 1 bytes at) (λ tag. content_at tag.0 count (length done) bytes tag.1) (x, next) e in
-        let t = number_stands faults.Short 1 bytes at a.0.0 a.0.1 fits a.1 in
-        let c = content_stands bytes a.0.0 count (length done) a.0.1 x next fits a.2 in
-        let whole = Stands-then bytes at (big_bytes 1 a.0.0) a.0.1 c.body next t.0 c.stands in
-        (subst (λ (text : List ℕ). Stands bytes at text next) (sym c.spelled) whole, record { fits = c.fits; unused = c.used ∙ sym w; narrow = c.narrow }))
+    (λ r. r ≡ Ok (x, next) → Stands bytes at (entry_bytes x) next × Fit count done x)
+    (λ w e. subst (λ (p : Entry × ℕ). Stands bytes at (entry_bytes p.0) p.1 × Fit count done p.0) (ok_is (entries.Unused, at) (x, next) e)
+    (Stands-nothing bytes at le, record { fits = tt; unused = sym w; narrow = λ h. absurd cc }))
+    (λ w e.
+    let a = bind_ok (number_at faults.Short 1 bytes at) (λ tag. content_at tag.0 count (length done) bytes tag.1) (x, next) e in
+    let t = number_stands faults.Short 1 bytes at a.0.0 a.0.1 fits a.1 in
+    let c = content_stands bytes a.0.0 count (length done) a.0.1 x next fits a.2 in
+    let whole = Stands-then bytes at (big_bytes 1 a.0.0) a.0.1 c.body next t.0 c.stands in
+    (subst (λ (text : List ℕ). Stands bytes at text next) (sym c.spelled) whole, record { fits = c.fits; unused = c.used ∙ sym w; narrow = c.narrow }))
 
 tag_first : (count : ℕ) (bytes : List ℕ) (done : List Entry) (at tag : ℕ) (body : List ℕ) (x : Entry) (next : ℕ) → ends_wide done ≡ false → tag < 256 → Stands bytes at (big_bytes 1 tag ++ body) next
     → (Stands bytes (at + 1) body next → content_at tag count (length done) bytes (at + 1) ≡ Ok (x, next)) → entry_at count bytes done at ≡ Ok (x, next)
@@ -113,8 +113,8 @@ spaced_along count done [] size room along = spaced_end (ends_wide done) (λ w. 
 spaced_along count done (x ∷ es) size room along =
     let len : length (done ++ x ∷ []) ≡ length done + 1 = length_push done x in
     let more : ends_wide (done ++ x ∷ []) ≡ true → length (done ++ x ∷ []) < count = λ w.
-      let apart = eqb-false (length done + 1) count (along.0.narrow (sym (ends_wide-push done x) ∙ w)) in
-      omega arith in
+    let apart = eqb-false (length done + 1) count (along.0.narrow (sym (ends_wide-push done x) ∙ w)) in
+    omega arith in
     let rest = spaced_along count (done ++ x ∷ []) es (omega arith) more along.1 in
     spaced_more (ends_wide done) x es along.0.unused (subst (λ (b : Bool). AreSpaced b es) (ends_wide-push done x) rest)
 
@@ -136,9 +136,10 @@ along_spaced count done [] size s fits = tt
 along_spaced count done (x ∷ es) size s fits =
     let len : length (done ++ x ∷ []) ≡ length done + 1 = length_push done x in
     let rest = spaced_rest (ends_wide done) x es s in
-    let narrow : is_wide x ≡ true → (length done + 1 == count) ≡ false = λ w. ne_eqb (length done + 1) count (λ e. let left = none_left (is_wide x) es rest w in omega arith) in
-    (record { fits = fits.0; unused = unused_here (ends_wide done) x es s; narrow = narrow },
-     along_spaced count (done ++ x ∷ []) es (omega arith) (subst (λ (b : Bool). AreSpaced b es) (sym (ends_wide-push done x)) rest) fits.1)
+    let narrow : is_wide x ≡ true → (length done + 1 == count) ≡ false = λ w. ne_eqb (length done + 1) count (λ e. let left = none_left (is_wide x) es rest w in omega arith) in (
+      record { fits = fits.0; unused = unused_here (ends_wide done) x es s; narrow = narrow },
+      along_spaced count (done ++ x ∷ []) es (omega arith) (subst (λ (b : Bool). AreSpaced b es) (sym (ends_wide-push done x)) rest) fits.1,
+    )
 
 pub fits_along : (count : ℕ) (done es : List Entry) → Along (Fit count) done es → AllByRecursion EntryFits es
 fits_along count done [] along = tt

@@ -35,7 +35,7 @@ all_long : (p : Entry → Bool) (es : List Entry) → length es ≤ prefix_len p
 all_long p [] le = tt
 all_long p (e ∷ es) le =
     cond_both (p e) (1 + prefix_len p es) 0 (λ n. length (e ∷ es) ≤ n → AllByRecursion (λ e. IsTrue (p e)) (e ∷ es))
-      (λ h more. (h, all_long p es (omega arith))) (λ h more. absurd (omega arith)) le
+    (λ h more. (h, all_long p es (omega arith))) (λ h more. absurd (omega arith)) le
 
 long_all : (p : Entry → Bool) (es : List Entry) → AllByRecursion (λ e. IsTrue (p e)) es → length es ≤ prefix_len p es
 long_all p [] all = omega arith
@@ -91,7 +91,7 @@ pool_stands bytes at pool next fits e =
     let s = number_stands faults.Short 2 bytes at count a.0.1 fits a.1 in
     let f = each_stands bytes entry_bytes (Fit count) (entry_at count bytes) (entry_stands count bytes fits) (count - 1) (entries.Unused ∷ []) a.0.1 b.0.0 b.0.1 s.0.within b.1 in
     let refer : AllByRecursion (λ e. IsTrue (refers_rightly (entries.Unused ∷ f.xs) e)) (entries.Unused ∷ f.xs) =
-      right_none (refers_rightly (entries.Unused ∷ f.xs)) (entries.Unused ∷ f.xs) (subst (λ (es : List Entry). position (λ e. not (refers_rightly es e)) es ≡ None) f.parts r.0) in
+    right_none (refers_rightly (entries.Unused ∷ f.xs)) (entries.Unused ∷ f.xs) (subst (λ (es : List Entry). position (λ e. not (refers_rightly es e)) es ≡ None) f.parts r.0) in
     let stands : StandsPool bytes at b.0.0 b.0.1 = record {
       es = f.xs;
       count = count;

