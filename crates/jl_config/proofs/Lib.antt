@@ -1,2 +1,4 @@
 pub mod Finds
 pub mod Lists
+pub mod Orders
+pub mod Unique
