@@ -1,5 +1,5 @@
 -- Finding modules by their names: in one list, in two, and by places.
-use Rattle.std.proofs.Common.{◌≡◌, ◌≢◌, ◌⊎◌, ◌<◌, ◌≤◌, ◌+◌, ℕ, zero, suc, List, [], ◌∷◌, ◌++◌, length, get_or, take, drop, slice_get, inl, inr, ⊎_elim, refl, sym, ◌∙◌, ap, subst, Contains, Option, Some, None, Bool, true, false, true≢false, cond, nat_eq, Ordering, Less, Equal, Greater, Result, Ok, Err, HoldsAt, MatchResult, insert, arith, add-one}
+use Rattle.std.proofs.Common.{◌≡◌, ◌≢◌, ◌⊎◌, ◌<◌, ◌≤◌, ◌+◌, ℕ, zero, suc, List, [], ◌∷◌, ◌++◌, length, get_or, take, drop, slice_get, inl, inr, ⊎_elim, refl, sym, ◌∙◌, ap, ap₂, subst, Contains, Option, Some, None, Bool, true, false, true≢false, cond, nat_eq, Ordering, Less, Equal, Greater, Result, Ok, Err, HoldsAt, MatchResult, insert, arith, add-one}
 use Rattle.std.specs.List.{AllByRecursion, AllWithin}
 use Rattle.std.specs.Option.{option_map}
 use Rattle.std.specs.Ordering.{ordering_reverse, is_eq, is_lt, nat_cmp, ordering_index}
@@ -8,6 +8,8 @@ use Rattle.std.specs.Cmp.Lexicographic.{pointwise, slice_cmp, bytes_decides, tex
 use Rattle.std.specs.List.Sorted.{IsSortedBy, IsNonDecreasingBy, IsBinarySearchResult, IsPartitionPoint, IsSearchInRange}
 use Rattle.std.proofs.lemmas.Cmp.{on_total, tied_itself}
 use Rattle.std.proofs.lemmas.List.{take-append-drop}
+use Rattle.std.proofs.lemmas.Bool.{cases_lt}
+use Rattle.std.proofs.lemmas.List.Elements.{All-from_recursion, recursion_from_All}
 use Rattle.std.proofs.lemmas.List.Sorted.{searchable_from_sorted}
 use Rattle.jl_prim.specs.declared.declaration.Observed.{Observed}
 use Rattle.jl_logic.specs.Order.{name_cmp, RisesBy}
@@ -76,9 +78,20 @@ finds_itself (w ∷ os) o up c = ⊎_elim (λ e. subst (λ v. find_named (name_o
 
 -- ---- two lists
 
-pub or_else : Option Observed → Option Observed → Option Observed
-or_else None other = other
+abbrev or_else : Option Observed → Option Observed → Option Observed
 or_else (Some o) other = Some o
+or_else None other = other
+
+none_some : {A : Type 0} {X : Type 0} (x : X) → None ≡ Some x → A
+none_some x e = absurd cc
+
+or_else_joined : (xs ys : List Observed) (name : List ℕ) → or_else (find_named name xs) (find_named name ys) ≡ find_named name (xs ++ ys)
+or_else_joined [] ys name = refl
+or_else_joined (w ∷ xs) ys name = by (or_else_joined xs ys name) (pointwise nat_eq (name_of w) name) refl
+  where
+    by : or_else (find_named name xs) (find_named name ys) ≡ find_named name (xs ++ ys) → (b : Bool) → pointwise nat_eq (name_of w) name ≡ b → or_else (find_named name (w ∷ xs)) (find_named name ys) ≡ find_named name ((w ∷ xs) ++ ys)
+    by more true e = rw e refl
+    by more false e = rw e more
 
 pub located_joined : (before after : List Observed) (name : List ℕ) → located before after name ≡ find_named name (before ++ after)
 located_joined [] after name = refl
@@ -139,3 +152,101 @@ none_placed name os e = by (place_named name os) refl
     by : (f : Option ℕ) → place_named name os ≡ f → place_named name os ≡ None
     by None h = h
     by (Some p) h = let r = place_shows name os p h in absurd (cc r.2)
+
+-- ---- searches by name in a list that rises
+
+same_module : (w : Observed) (os : List Observed) (p : ℕ) (name : List ℕ) → AllByRecursion (λ v. module_cmp w v ≡ Less) os → p < length os → name_cmp (name_of (get_or os p w)) name ≡ Equal → pointwise nat_eq (name_of w) name ≡ false
+same_module w os p name low lt e =
+    let less : module_cmp w (get_or os p w) ≡ Less = All-from_recursion (λ v. module_cmp w v ≡ Less) os low p w lt in
+    let same : name_of (get_or os p w) ≡ name = same_name (name_of (get_or os p w)) name (tied_same (name_of (get_or os p w)) name e) in
+    less_differs (name_of w) name (subst (λ n. name_cmp (name_of w) n ≡ Less) same less)
+
+pub place_at : (os : List Observed) (p : ℕ) (name : List ℕ) → RisesBy module_cmp os → p < length os → ((d : Observed) → name_cmp (name_of (get_or os p d)) name ≡ Equal) → place_named name os ≡ Some p
+place_at [] p name up lt e = absurd (omega arith)
+place_at (w ∷ os) zero name up lt e = rw (tied_same (name_of w) name (e w)) refl
+place_at (w ∷ os) (suc p) name up lt e =
+    let differs = same_module w os p name up.0 (omega arith) (e w) in
+    let more : place_named name os ≡ Some p = place_at os p name up.1 (omega arith) e in
+    let n : p + 1 ≡ suc p = add-one p in
+    rw (differs, more) (ap Some n)
+
+-- no place where each name is less or greater
+pub no_place : (os : List Observed) (name : List ℕ) → AllByRecursion (λ o. pointwise nat_eq (name_of o) name ≡ false) os → place_named name os ≡ None
+no_place [] name h = refl
+no_place (w ∷ os) name h = let more : place_named name os ≡ None = no_place os name h.1 in rw (h.0, more) refl
+
+pub sorted_from_rising : (os : List Observed) → RisesBy module_cmp os → IsSortedBy (λ a b. is_lt (name_cmp (name_of a) (name_of b))) os
+sorted_from_rising [] up k d le lt = absurd (omega arith)
+sorted_from_rising (w ∷ []) up k d le lt = absurd (omega arith)
+sorted_from_rising (w ∷ v ∷ os) up zero d le lt =
+    let less : name_cmp (name_of w) (name_of v) ≡ Less = up.0.0 in
+    let back : name_cmp (name_of v) (name_of w) ≡ Greater = names_total.antisymm (name_of v) (name_of w) ∙ ap ordering_reverse less in
+    ap is_lt back
+sorted_from_rising (w ∷ v ∷ os) up (suc k) d le lt =
+    let more = sorted_from_rising (v ∷ os) up.1 k d (omega arith) (omega arith) in
+    rw (add-one (suc k)) (rw (add-one k) at more)
+
+pub is_searched : (name : List ℕ) (os : List Observed) (r : Result ℕ ℕ) → RisesBy module_cmp os → IsSearchInRange r (length os) → IsBinarySearchResult (λ o. name_cmp (name_of o) name) os r → IsSearched name os r
+is_searched name os (Ok p) up range h = place_at os p name up range h
+is_searched name os (Err p) up range h =
+    let split = h (searchable_from_sorted names_total name_of os name (sorted_from_rising os up)) in
+    let each : (k : ℕ) (d : Observed) → k < length os → pointwise nat_eq (name_of (get_or os k d)) name ≡ false =
+        λ k d lt. ⊎_elim (λ l. less_differs (name_of (get_or os k d)) name (split.0 k d (omega arith) l)) (λ g. greater_differs (name_of (get_or os k d)) name (split.1 k d g lt)) (cases_lt k p) in
+    (no_place os name (recursion_from_All (λ o. pointwise nat_eq (name_of o) name ≡ false) os each), split)
+
+-- ---- an insert
+
+each_taken : (P : Observed → Type 0) (os : List Observed) (p : ℕ) → AllWithin P os 0 p → p ≤ length os → AllByRecursion P (take p os)
+each_taken P os zero h le = tt
+each_taken P [] (suc p) h le = tt
+each_taken P (w ∷ os) (suc p) h le = (h 0 w (omega arith) (omega arith), each_taken P os p (λ k d a b. h (suc k) d (omega arith) (omega arith)) (omega arith))
+
+each_dropped : (P : Observed → Type 0) (os : List Observed) (p : ℕ) → AllWithin P os p (length os) → AllByRecursion P (drop p os)
+each_dropped P os zero h = recursion_from_All P os (λ k d lt. h k d (omega arith) lt)
+each_dropped P [] (suc p) h = tt
+each_dropped P (w ∷ os) (suc p) h = each_dropped P os p (λ k d a b. h (suc k) d (omega arith) (omega arith))
+
+-- a module whose name no other has is found at whatever place
+moved : (xs ys : List Observed) (o : Observed) (name : List ℕ) → AllByRecursion (λ w. pointwise nat_eq (name_of w) (name_of o) ≡ false) ys → find_named name (xs ++ o ∷ ys) ≡ find_named name ((xs ++ ys) ++ o ∷ [])
+moved [] [] o name h = refl
+moved [] (w ∷ ys) o name h = by (moved [] ys o name h.1) (pointwise nat_eq (name_of o) name) (pointwise nat_eq (name_of w) name) refl refl
+  where
+    by : find_named name (o ∷ ys) ≡ find_named name (ys ++ o ∷ []) → (b c : Bool) → pointwise nat_eq (name_of o) name ≡ b → pointwise nat_eq (name_of w) name ≡ c → find_named name (o ∷ w ∷ ys) ≡ find_named name (w ∷ (ys ++ o ∷ []))
+    by more true true e f =
+        let s : name_of o ≡ name = same_name (name_of o) name e in
+        let g : pointwise nat_eq (name_of w) name ≡ false = subst (λ n. pointwise nat_eq (name_of w) n ≡ false) s h.0 in
+        absurd (true≢false (sym f ∙ g))
+    by more true false e f = let m : Some o ≡ find_named name (ys ++ o ∷ []) = rw e at more in rw (e, f) m
+    by more false true e f = rw (e, f) refl
+    by more false false e f = let m : find_named name ys ≡ find_named name (ys ++ o ∷ []) = rw e at more in rw (e, f) m
+moved (w ∷ xs) ys o name h = by (moved xs ys o name h) (pointwise nat_eq (name_of w) name) refl
+  where
+    by : find_named name (xs ++ o ∷ ys) ≡ find_named name ((xs ++ ys) ++ o ∷ []) → (b : Bool) → pointwise nat_eq (name_of w) name ≡ b → find_named name (w ∷ (xs ++ o ∷ ys)) ≡ find_named name (w ∷ ((xs ++ ys) ++ o ∷ []))
+    by more true e = rw e refl
+    by more false e = rw e more
+
+-- a second module of a name is not found
+hidden_by : (os : List Observed) (o v : Observed) (name : List ℕ) → find_named (name_of o) os ≡ Some v → (f : Option Observed) (b : Bool) → find_named name os ≡ f → pointwise nat_eq (name_of o) name ≡ b → find_named name os ≡ find_named name (os ++ o ∷ [])
+hidden_by os o v name e (Some w) b f g = f ∙ sym (ap (λ x. or_else x (find_named name (o ∷ []))) f) ∙ or_else_joined os (o ∷ []) name
+hidden_by os o v name e None true f g = let s : name_of o ≡ name = same_name (name_of o) name g in none_some v (sym f ∙ ap (λ n. find_named n os) (sym s) ∙ e)
+hidden_by os o v name e None false f g =
+    let nothing : find_named name (o ∷ []) ≡ None = rw g refl in
+    f ∙ sym (ap₂ or_else f nothing) ∙ or_else_joined os (o ∷ []) name
+
+-- what a search says of adding a module
+pub not_added : (os : List Observed) (o : Observed) (p : ℕ) → place_named (name_of o) os ≡ Some p → (name : List ℕ) → find_named name os ≡ find_named name (os ++ o ∷ [])
+not_added os o p e name =
+    let r = place_shows (name_of o) os p e in
+    hidden_by os o r.0 name r.2 (find_named name os) (pointwise nat_eq (name_of o) name) refl refl
+
+pub added_rises : (os : List Observed) (o : Observed) (p : ℕ) → RisesBy module_cmp os → p ≤ length os → IsPartitionPoint (λ w. name_cmp (name_of w) (name_of o) ≡ Less) (λ w. name_cmp (name_of w) (name_of o) ≡ Greater) os p → RisesBy module_cmp (insert os p o)
+added_rises os o p up le split =
+    let whole : RisesBy module_cmp (take p os ++ drop p os) = subst (RisesBy module_cmp) (sym (take-append-drop p os)) up in
+    let high : AllWithin (λ w. module_cmp o w ≡ Less) os p (length os) = λ k d a b. less_back (name_of (get_or os k d)) (name_of o) (split.1 k d a b) in
+    rises_between module_cmp modules_total (take p os) (drop p os) o whole (each_taken (λ w. module_cmp w o ≡ Less) os p split.0 le) (each_dropped (λ w. module_cmp o w ≡ Less) os p high)
+
+pub added_found : (os : List Observed) (o : Observed) (p : ℕ) → IsPartitionPoint (λ w. name_cmp (name_of w) (name_of o) ≡ Less) (λ w. name_cmp (name_of w) (name_of o) ≡ Greater) os p → (name : List ℕ) → find_named name (insert os p o) ≡ find_named name (os ++ o ∷ [])
+added_found os o p split name =
+    let differ : AllWithin (λ w. pointwise nat_eq (name_of w) (name_of o) ≡ false) os p (length os) = λ k d a b. greater_differs (name_of (get_or os k d)) (name_of o) (split.1 k d a b) in
+    moved (take p os) (drop p os) o name (each_dropped (λ w. pointwise nat_eq (name_of w) (name_of o) ≡ false) os p differ)
+    ∙ ap (λ l. find_named name (l ++ o ∷ [])) (take-append-drop p os)
