@@ -192,7 +192,7 @@ is_searched name os (Err p) up range h =
     let split = h (searchable_from_sorted names_total name_of os name (sorted_from_rising os up)) in
     let each : (k : ℕ) (d : Observed) → k < length os → pointwise nat_eq (name_of (get_or os k d)) name ≡ false =
         λ k d lt. ⊎_elim (λ l. less_differs (name_of (get_or os k d)) name (split.0 k d (omega arith) l)) (λ g. greater_differs (name_of (get_or os k d)) name (split.1 k d g lt)) (cases_lt k p) in
-    (no_place os name (recursion_from_All (λ o. pointwise nat_eq (name_of o) name ≡ false) os each), split)
+    (no_place os name (recursion_from_All (λ o. pointwise nat_eq (name_of o) name ≡ false) os each), range, split)
 
 -- ---- an insert
 
@@ -250,3 +250,14 @@ added_found os o p split name =
     let differ : AllWithin (λ w. pointwise nat_eq (name_of w) (name_of o) ≡ false) os p (length os) = λ k d a b. greater_differs (name_of (get_or os k d)) (name_of o) (split.1 k d a b) in
     moved (take p os) (drop p os) o name (each_dropped (λ w. pointwise nat_eq (name_of w) (name_of o) ≡ false) os p differ)
     ∙ ap (λ l. find_named name (l ++ o ∷ [])) (take-append-drop p os)
+
+-- what an insert of a copy into a list leaves, the list as a search read it
+pub rises_added : (os read new : List Observed) (o copy : Observed) (p : ℕ) → read ≡ os → copy ≡ o → new ≡ insert os p copy → RisesBy module_cmp os → p ≤ length read → IsPartitionPoint (λ w. name_cmp (name_of w) (name_of o) ≡ Less) (λ w. name_cmp (name_of w) (name_of o) ≡ Greater) read p → RisesBy module_cmp new
+rises_added os read new o copy p e f g up le split =
+    let same : insert read p o ≡ new = ap₂ (λ l w. insert l p w) e (sym f) ∙ sym g in
+    subst (RisesBy module_cmp) same (added_rises read o p (subst (RisesBy module_cmp) (sym e) up) le split)
+
+pub finds_added : (os read new : List Observed) (o copy : Observed) (p : ℕ) → read ≡ os → copy ≡ o → new ≡ insert os p copy → IsPartitionPoint (λ w. name_cmp (name_of w) (name_of o) ≡ Less) (λ w. name_cmp (name_of w) (name_of o) ≡ Greater) read p → (name : List ℕ) → find_named name new ≡ find_named name (os ++ o ∷ [])
+finds_added os read new o copy p e f g split name =
+    let same : insert read p o ≡ new = ap₂ (λ l w. insert l p w) e (sym f) ∙ sym g in
+    ap (find_named name) (sym same) ∙ added_found read o p split name ∙ ap (λ l. find_named name (l ++ o ∷ [])) e

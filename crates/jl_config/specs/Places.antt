@@ -1,5 +1,5 @@
 -- Modules by their places in one list: the words in which the parts of a resolution speak.
-use Rattle.std.specs.Prelude.{◌≡◌, ℕ, zero, suc, ◌+◌, List, [], ◌∷◌, ◌++◌, Option, None, Some, Result, Ok, Err, Bool, true, ◌&&◌, map, length, take, IsTrue, Contains, ◌⊎◌, if◌then◌else◌, slice_get, nat_eq}
+use Rattle.std.specs.Prelude.{◌≡◌, ℕ, zero, suc, ◌+◌, ◌≤◌, List, [], ◌∷◌, ◌++◌, Option, None, Some, Result, Ok, Err, Bool, true, ◌&&◌, map, length, take, IsTrue, Contains, ◌⊎◌, if◌then◌else◌, slice_get, nat_eq}
 use Rattle.std.specs.List.{filter_map}
 use Rattle.std.specs.List.Sorted.{IsPartitionPoint}
 use Rattle.std.specs.Option.{option_map}
@@ -23,7 +23,7 @@ place_named name (o ∷ os) = if pointwise nat_eq (name_of o) name then Some 0 e
 -- what a search for a name answers: its place, or where it would stand
 abbrev pub IsSearched : List ℕ → List Observed → Result ℕ ℕ → Type 0
 IsSearched name os (Ok p) = place_named name os ≡ Some p
-IsSearched name os (Err p) = (place_named name os ≡ None) × IsPartitionPoint (λ o. name_cmp (name_of o) name ≡ Less) (λ o. name_cmp (name_of o) name ≡ Greater) os p
+IsSearched name os (Err p) = (place_named name os ≡ None) × (p ≤ length os) × IsPartitionPoint (λ o. name_cmp (name_of o) name ≡ Less) (λ o. name_cmp (name_of o) name ≡ Greater) os p
 
 -- os holds, in name order, the first module of each name of all
 pub record IsUniverse (all os : List Observed) : Type 0 where
