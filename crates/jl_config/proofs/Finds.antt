@@ -7,7 +7,7 @@ use Rattle.std.specs.Cmp.{IsTotalOrder}
 use Rattle.std.specs.Cmp.Lexicographic.{pointwise, slice_cmp, bytes_decides, texts_ties, nat_list_cmp_total}
 use Rattle.std.specs.List.Sorted.{IsSortedBy, IsNonDecreasingBy, IsBinarySearchResult, IsPartitionPoint, IsSearchInRange}
 use Rattle.std.proofs.lemmas.Cmp.{on_total, tied_itself}
-use Rattle.std.proofs.lemmas.List.{take-append-drop}
+use Rattle.std.proofs.lemmas.List.{take-append-drop, take_more, append_assoc}
 use Rattle.std.proofs.lemmas.Bool.{cases_lt}
 use Rattle.std.proofs.lemmas.List.Elements.{All-from_recursion, recursion_from_All}
 use Rattle.std.proofs.lemmas.List.Sorted.{searchable_from_sorted}
@@ -261,3 +261,13 @@ pub finds_added : (os read new : List Observed) (o copy : Observed) (p : ℕ) �
 finds_added os read new o copy p e f g split name =
     let same : insert read p o ≡ new = ap₂ (λ l w. insert l p w) e (sym f) ∙ sym g in
     ap (find_named name) (sym same) ∙ added_found read o p split name ∙ ap (λ l. find_named name (l ++ o ∷ [])) e
+
+-- a loop's step: the module at i was added
+pub found_step : (first xs : List Observed) (i : ℕ) (o : Observed) (old new : List Observed) → i < length xs → o ≡ get_or xs i o → ((name : List ℕ) → find_named name old ≡ find_named name (first ++ take i xs)) → ((name : List ℕ) → find_named name new ≡ find_named name (old ++ o ∷ [])) → (name : List ℕ) → find_named name new ≡ find_named name (first ++ take (i + 1) xs)
+found_step first xs i o old new lt is e f name =
+    let more : take (i + 1) xs ≡ take i xs ++ o ∷ [] = take_more xs i o lt ∙ ap (λ w. take i xs ++ w ∷ []) (sym is) in
+    f name ∙ found_in_parts old (first ++ take i xs) (o ∷ []) name (e name) ∙ ap (find_named name) (append_assoc first (take i xs) (o ∷ []) ∙ ap (λ l. first ++ l) (sym more))
+
+-- both lists are added to nothing, one after the other
+pub found_all : (start before after first whole : List Observed) → start ≡ [] → ((name : List ℕ) → find_named name first ≡ find_named name (start ++ before)) → ((name : List ℕ) → find_named name whole ≡ find_named name (first ++ after)) → (name : List ℕ) → find_named name whole ≡ find_named name (before ++ after)
+found_all start before after first whole n e f name = f name ∙ found_in_parts first before after name (e name ∙ ap (λ l. find_named name (l ++ before)) n)

@@ -1,4 +1,6 @@
+pub mod Chains
 pub mod Finds
+pub mod Leasts
 pub mod Lists
 pub mod Orders
 pub mod Unique

@@ -1,7 +1,9 @@
 -- Lists of any items: what a filter keeps, and places.
-use Rattle.std.proofs.Common.{◌≡◌, ◌⊎◌, ◌<◌, ◌+◌, ℕ, zero, suc, List, [], ◌∷◌, ◌++◌, length, map, get_or, slice_get, inl, inr, ⊎_elim, refl, sym, ◌∙◌, ap, subst, Contains, Option, Some, None, Bool, true, false, arith}
+use Rattle.std.proofs.Common.{◌≡◌, ◌⊎◌, ◌<◌, ◌+◌, ℕ, zero, suc, List, [], ◌∷◌, ◌++◌, length, map, take, drop, get_or, slice_get, inl, inr, ⊎_elim, refl, sym, ◌∙◌, ap, ap₂, subst, Contains, Option, Some, None, Bool, true, false, arith}
 use Rattle.std.specs.List.{filter_map, cons_option}
-use Rattle.std.specs.Option.{option_map}
+use Rattle.std.specs.Option.{option_map, option_to_list}
+use Rattle.std.proofs.lemmas.List.{take_more, drop_more}
+use Rattle.std.proofs.lemmas.List.Elements.{filter_map-append}
 use Rattle.jl_logic.proofs.Rising.{contains_head, contains_tail, contains_cases, contains_nothing}
 
 module _ {X Y : Type 0} (h : X → Option Y) where
@@ -60,3 +62,17 @@ module _ {X : Type 0} where
   row_at f [] p x d e = absurd cc
   row_at f (w ∷ xs) zero x d e = let g : w ≡ x = cc in ap f g
   row_at f (w ∷ xs) (suc p) x d e = row_at f xs p x d e
+
+module _ {X Y : Type 0} (h : X → Option Y) where
+  alone : (o : Option Y) → cons_option o [] ≡ option_to_list o
+  alone None = refl
+  alone (Some y) = refl
+
+  -- a loop's step, where the result grew by what the item at i gives
+  pub filter_map_step : (xs : List X) (i : ℕ) (x : X) (old new : List Y) → i < length xs → x ≡ get_or xs i x → old ≡ filter_map h (take i xs) → new ≡ old ++ option_to_list (h x) → new ≡ filter_map h (take (i + 1) xs)
+  filter_map_step xs i x old new lt is e f =
+      let more : take (i + 1) xs ≡ take i xs ++ x ∷ [] = take_more xs i x lt ∙ ap (λ w. take i xs ++ w ∷ []) (sym is) in
+      f ∙ ap₂ (λ l r. l ++ r) e (sym (alone (h x))) ∙ sym (filter_map-append h (take i xs) (x ∷ [])) ∙ sym (ap (filter_map h) more)
+
+pub grown : {Y : Type 0} {o p : Option Y} {new : List Y} (old : List Y) → o ≡ p → new ≡ old ++ option_to_list o → new ≡ old ++ option_to_list p
+grown old e f = f ∙ ap (λ q. old ++ option_to_list q) e

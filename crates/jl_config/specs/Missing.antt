@@ -1,5 +1,5 @@
 -- Names that are not observed, and the least of them.
-use Rattle.std.specs.Prelude.{ℕ, List, [], ◌∷◌, ◌++◌, Option, None, Some, Bool, ◌&&◌, not, if◌then◌else◌}
+use Rattle.std.specs.Prelude.{ℕ, List, [], ◌∷◌, ◌++◌, Option, None, Some, Bool, ◌||◌, not, if◌then◌else◌}
 use Rattle.std.specs.List.{filter_map, flat_map}
 use Rattle.std.specs.Option.{is_some}
 use Rattle.std.specs.Ordering.{is_lt}
@@ -14,20 +14,21 @@ use Rattle.jl_config.specs.Resolves.{missing_cmp}
 abbrev pub fields : Missing → List ℕ × Option (List ℕ)
 fields m = (m.name, m.by)
 
-abbrev pub lesser : Option (List ℕ × Option (List ℕ)) → List ℕ × Option (List ℕ) → List ℕ × Option (List ℕ)
-lesser None other = other
-lesser (Some least) other = if is_lt (missing_cmp other least) then other else least
+abbrev pub lesser : Option (List ℕ × Option (List ℕ)) → Option (List ℕ × Option (List ℕ)) → Option (List ℕ × Option (List ℕ))
+lesser least None = least
+lesser None (Some other) = Some other
+lesser (Some least) (Some other) = if is_lt (missing_cmp other least) then Some other else Some least
 
 -- the least of the one so far and of those of a list
 abbrev pub least_from : Option (List ℕ × Option (List ℕ)) → List (List ℕ × Option (List ℕ)) → Option (List ℕ × Option (List ℕ))
 least_from least [] = least
-least_from least (m ∷ ms) = least_from (Some (lesser least m)) ms
+least_from least (m ∷ ms) = least_from (lesser least (Some m)) ms
 
 abbrev pub root_missing : List Observed → List ℕ → Option (List ℕ × Option (List ℕ))
 root_missing os name = if is_some (place_named name os) then None else Some (name, None)
 
 abbrev pub entry_missing : List Observed → List ℕ → Requires → Option (List ℕ × Option (List ℕ))
-entry_missing os by r = if is_followed r && not (is_some (place_named r.name os)) then Some (r.name, Some by) else None
+entry_missing os by r = if not (is_followed r) || is_some (place_named r.name os) then None else Some (r.name, Some by)
 
 -- the roots that are not observed
 abbrev pub missing_roots : List Observed → List (List ℕ) → List (List ℕ × Option (List ℕ))

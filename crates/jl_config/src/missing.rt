@@ -3,7 +3,7 @@
 ghost use Rattle.std.specs.Prelude.{◌≡◌, None, IfOk};
 ghost use Rattle.std.specs.Option.{option_map};
 ghost use Rattle.jl_logic.specs.Order.{RisesBy};
-ghost use Rattle.jl_config.specs.Missing.{fields, lesser, least_from, missing_roots, missing_entries, all_missing};
+ghost use Rattle.jl_config.specs.Missing.{fields, lesser, least_from, root_missing, entry_missing, missing_roots, missing_entries, all_missing};
 ghost use Rattle.jl_config.specs.Resolves.{module_cmp};
 
 use crate::places::{follows, place_of};
@@ -39,13 +39,7 @@ fn least_of_roots(modules: &[Observed], roots: &[Name]) -> Result<Option<Missing
 {
     let mut least = None;
     for name in roots {
-        if place_of(modules, name).is_none() {
-            let missing = Missing {
-                name: name.copy()?,
-                by: None,
-            };
-            least = Some(lesser_of(least, missing));
-        }
+        least = lesser_of(least, missing_root(modules, name)?);
     }
     Ok(least)
 }
@@ -61,28 +55,55 @@ fn least_of_entries(
 {
     let mut least = earlier;
     for entry in entries {
-        if follows(entry) && place_of(modules, &entry.name).is_none() {
-            let missing = Missing {
-                name: entry.name.copy()?,
-                by: Some(by.copy()?),
-            };
-            least = Some(lesser_of(least, missing));
-        }
+        least = lesser_of(least, missing_entry(modules, by, entry)?);
     }
     Ok(least)
 }
 
-fn lesser_of(least: Option<Missing>, other: Missing) -> Missing
-    ensures { fields result ≡ lesser (option_map fields least) (fields other) }
+fn missing_root(modules: &[Observed], name: &Name) -> Result<Option<Missing>, CopyEnd>
+    requires { RisesBy module_cmp modules.now }
+    ensures { IfOk result (λ missing. option_map fields missing ≡ root_missing modules.now name.now) }
 {
-    match least {
-        None => other,
-        Some(least) => {
-            if other < least {
-                other
-            } else {
-                least
+    if place_of(modules, name).is_some() {
+        return Ok(None);
+    }
+    Ok(Some(Missing {
+        name: name.copy()?,
+        by: None,
+    }))
+}
+
+fn missing_entry(
+    modules: &[Observed],
+    by: &Name,
+    entry: &Requires,
+) -> Result<Option<Missing>, CopyEnd>
+    requires { RisesBy module_cmp modules.now }
+    ensures { IfOk result (λ missing. option_map fields missing ≡ entry_missing modules.now by.now entry.now) }
+{
+    if !follows(entry) || place_of(modules, &entry.name).is_some() {
+        return Ok(None);
+    }
+    Ok(Some(Missing {
+        name: entry.name.copy()?,
+        by: Some(by.copy()?),
+    }))
+}
+
+fn lesser_of(least: Option<Missing>, other: Option<Missing>) -> Option<Missing>
+    ensures { option_map fields result ≡ lesser (option_map fields least) (option_map fields other) }
+{
+    match other {
+        None => least,
+        Some(other) => match least {
+            None => Some(other),
+            Some(least) => {
+                if other < least {
+                    Some(other)
+                } else {
+                    Some(least)
+                }
             }
-        }
+        },
     }
 }

@@ -1,8 +1,7 @@
 //! What is observed: one module for each name.
 
-ghost use Rattle.std.specs.Prelude.{◌≡◌, ◌++◌, [], ◌∷◌, IfOk, OnOk};
+ghost use Rattle.std.specs.Prelude.{◌++◌, [], ◌∷◌, IfOk, OnOk};
 ghost use Rattle.jl_logic.specs.Order.{RisesBy};
-ghost use Rattle.jl_config.specs.Members.{find_named};
 ghost use Rattle.jl_config.specs.Places.{IsUniverse};
 ghost use Rattle.jl_config.specs.Resolves.{module_cmp};
 
@@ -24,8 +23,7 @@ pub fn universe_of(
 
 fn with_all(mut modules: Vec<Observed>, new: &[Observed]) -> Result<Vec<Observed>, CopyEnd>
     requires { RisesBy module_cmp modules.items }
-    ensures rises { IfOk result (λ more. RisesBy module_cmp more.items) }
-    ensures finds { IfOk result (λ more. (name : _) → find_named name more.items ≡ find_named name (modules.items ++ new.now)) }
+    ensures { IfOk result (λ more. IsUniverse (modules.items ++ new.now) more.items) }
 {
     for o in new {
         add(&mut modules, o)?;
@@ -36,8 +34,7 @@ fn with_all(mut modules: Vec<Observed>, new: &[Observed]) -> Result<Vec<Observed
 // Adds a module, unless there is one of its name.
 fn add(modules: &mut Vec<Observed>, o: &Observed) -> Result<(), CopyEnd>
     requires { RisesBy module_cmp modules.old.items }
-    ensures rises { OnOk result (RisesBy module_cmp modules.new.items) }
-    ensures finds { OnOk result ((name : _) → find_named name modules.new.items ≡ find_named name (modules.old.items ++ o.now ∷ [])) }
+    ensures { OnOk result (IsUniverse (modules.old.items ++ o.now ∷ []) modules.new.items) }
 {
     match search_named(modules.as_slice(), &o.declaration.name) {
         Ok(_) => Ok(()),
