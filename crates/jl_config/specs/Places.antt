@@ -73,7 +73,7 @@ ReadIn ms a b = (a ≡ b) ⊎ ((n : ℕ) × ReadsAmong ms n a b)
 pub record AreReadBy (ms : List Observed) (a : Observed) (marks : List Bool) : Type 0 where
   pub one_each : length marks ≡ length ms
   pub only : (p : ℕ) (b : Observed) → slice_get ms p ≡ Some b → slice_get marks p ≡ Some true → ReadIn ms a b
-  pub all : (p : ℕ) (b : Observed) → slice_get ms p ≡ Some b → ReadIn ms a b → slice_get marks p ≡ Some true
+  pub all : (b : Observed) → ReadIn ms a b → (p : ℕ) × (slice_get ms p ≡ Some b) × (slice_get marks p ≡ Some true)
 
 -- rs are, in order, what the readers read among ms
 pub record AreReads (id : ConfigId) (ms readers : List Observed) (rs : List Read) : Type 0 where
