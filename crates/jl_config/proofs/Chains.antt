@@ -3,7 +3,7 @@ use Rattle.std.proofs.Common.{◌≡◌, ◌⊎◌, ◌<◌, ◌≤◌, ℕ, zer
 use Rattle.std.specs.List.{AllByRecursion}
 use Rattle.std.proofs.lemmas.List.{length-map}
 use Rattle.std.proofs.lemmas.Option.{slice_get_within, slice_get-get_or}
-use Rattle.std.proofs.lemmas.List.Elements.{All-map, All-from_recursion}
+use Rattle.std.proofs.lemmas.List.Elements.{All-map, All-from_recursion, All-push}
 use Rattle.jl_prim.specs.declared.declaration.Requires.{Requires}
 use Rattle.jl_prim.specs.declared.declaration.Observed.{Observed}
 use Rattle.jl_closure.specs.Reached.{Chain, Follows, IsReached}
@@ -59,6 +59,17 @@ rows_long kind os = length-map os (λ o. entry_places kind os o.declaration.requ
 pub rows_within : (kind : Entries) (os : List Observed) → All (λ row. All (λ p. p < length (rows kind os)) row) (rows kind os)
 rows_within kind os = All-map (λ row. All (λ p. p < length (rows kind os)) row) (λ o. entry_places kind os o.declaration.required) os (λ k d lt. subst (λ n. All (λ p. p < n) (entry_places kind os (get_or os k d).declaration.required)) (sym (rows_long kind os)) (entries_within kind os (get_or os k d).declaration.required))
 
+pub graph_given : (kind : Entries) (os : List Observed) (next : List (List ℕ)) → next ≡ rows kind os → All (λ row. All (λ p. p < length next) row) next
+graph_given kind os next e = subst (λ (n : List (List ℕ)). All (λ row. All (λ p. p < length n) row) n) (sym e) (rows_within kind os)
+
+pub starts_given : (kind : Entries) (os : List Observed) (next : List (List ℕ)) (starts places : List ℕ) → next ≡ rows kind os → starts ≡ places → All (λ p. p < length os) places → All (λ p. p < length next) starts
+starts_given kind os next starts places e f h =
+    let long : length os ≡ length next = sym (rows_long kind os) ∙ ap length (sym e) in
+    subst (λ s. All (λ p. p < length next) s) (sym f) (subst (λ n. All (λ p. p < n) places) long h)
+
+pub reader_within : (ms : List Observed) (a : Observed) (at : ℕ) → slice_get ms at ≡ Some a → All (λ p. p < length ms) (entry_places Every ms a.declaration.required ++ at ∷ [])
+reader_within ms a at here = All-push (λ p. p < length ms) (entry_places Every ms a.declaration.required) at (entries_within Every ms a.declaration.required) (slice_get_within ms at a here)
+
 -- ---- the set
 
 module _ (os : List Observed) (roots : List (List ℕ)) where
@@ -85,7 +96,7 @@ module _ (os : List Observed) (roots : List (List ℕ)) where
 
 -- ---- what is marked
 
-kept_shows : (os : List Observed) (marks : List Bool) (o : Observed) → Contains (kept os marks) o → (p : ℕ) × (slice_get os p ≡ Some o) × (slice_get marks p ≡ Some true)
+pub kept_shows : (os : List Observed) (marks : List Bool) (o : Observed) → Contains (kept os marks) o → (p : ℕ) × (slice_get os p ≡ Some o) × (slice_get marks p ≡ Some true)
 kept_shows [] marks o c = contains_nothing o c
 kept_shows (w ∷ os) [] o c = contains_nothing o c
 kept_shows (w ∷ os) (true ∷ marks) o c = ⊎_elim (λ e. (0, ap Some e, refl)) (λ k. let r = kept_shows os marks o k in (suc r.0, r.1, r.2)) (contains_cases w o (kept os marks) c)

@@ -3,4 +3,5 @@ pub mod Finds
 pub mod Leasts
 pub mod Lists
 pub mod Orders
+pub mod Grown
 pub mod Unique
