@@ -5,3 +5,4 @@ pub mod Lists
 pub mod Orders
 pub mod Grown
 pub mod Unique
+pub mod Whole
