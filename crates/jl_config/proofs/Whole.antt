@@ -1,5 +1,5 @@
 -- The parts of a resolution, over one list of all that is observed, make the whole over two finders.
-use Rattle.std.proofs.Common.{◌≡◌, ◌≢◌, ◌⊎◌, ◌+◌, ℕ, zero, suc, List, [], ◌∷◌, ◌++◌, inl, inr, ⊎_elim, refl, sym, ◌∙◌, ap, subst, Contains, Option, Some, None, Bool, true, false, cond, not, ◌||◌, IsTrue, filter_map, flat_map}
+use Rattle.std.proofs.Common.{◌≡◌, ◌≢◌, ◌⊎◌, ◌+◌, ℕ, zero, suc, List, [], ◌∷◌, ◌++◌, inl, inr, ⊎_elim, refl, sym, ◌∙◌, ap, ap₂, subst, Contains, Option, Some, None, Bool, true, false, cond, not, ◌||◌, IsTrue, filter_map, flat_map}
 use Rattle.std.specs.Option.{is_some}
 use Rattle.jl_prim.specs.declared.numbers.ConfigId.{ConfigId}
 use Rattle.jl_prim.specs.declared.declaration.Requires.{Requires}
@@ -160,3 +160,18 @@ module _ (before after os : List Observed) (roots : List (List ℕ)) (ms : List 
 
   pub none_missing : None ≡ least_from None (all_missing os roots ms) → (m : List ℕ × Option (List ℕ)) → IsMissing before after roots m → ⊥
   none_missing e m h = least_of_none (all_missing os roots ms) m (sym e) (missing_into m h)
+
+pub universe_seen : (before after first second os : List Observed) → first ≡ before → second ≡ after → IsUniverse (first ++ second) os → IsUniverse (before ++ after) os
+universe_seen before after first second os e f u = subst (λ l. IsUniverse l os) (ap₂ (λ b a. b ++ a) e f) u
+
+pub resolved : (before after os : List Observed) (roots : List (List ℕ)) (ms : List Observed) → IsUniverse (before ++ after) os → AreMembers os roots ms
+    → (known : ℕ) (parents : List ConfigId) (g : Graph) (reads : List Read) → g.id ≡ record { 0 = known + 1 } → g.parents ≡ parents → g.modules ≡ ms → g.reads ≡ reads
+    → None ≡ least_from None (all_missing os roots ms) → AreReads g.id ms ms reads → IsResolved known before parents after roots g
+resolved before after os roots ms universe members known parents g reads i p m r none h = record {
+    next = i;
+    given = p;
+    complete = none_missing before after os roots ms universe members none;
+    graph =
+      let same : record { id = g.id; parents = parents; modules = ms; reads = reads } ≡ g = λ t. record { id = g.id; parents = sym p t; modules = sym m t; reads = sym r t } in
+      subst (IsGraphOf before after roots) same (graph_right before after os roots ms universe members g.id parents reads h);
+  }
