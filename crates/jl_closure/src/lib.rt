@@ -4,3 +4,6 @@
 mod reach;
 
 pub use reach::closure;
+
+#[cfg(test)]
+mod tests;

@@ -16,9 +16,9 @@ told NoMemory = None
 -- A unit in one byte, in two, or in three. U+0000 takes two.
 abbrev pub unit_bytes : ℕ → List ℕ
 unit_bytes u =
-  if nat_lt 0 u && nat_lt u 128 then u ∷ []
-  else if nat_lt u 2048 then (192 + u / 64) ∷ (128 + u % 64) ∷ []
-  else (224 + u / 4096) ∷ (128 + u / 64 % 64) ∷ (128 + u % 64) ∷ []
+    if nat_lt 0 u && nat_lt u 128 then u ∷ []
+    else if nat_lt u 2048 then (192 + u / 64) ∷ (128 + u % 64) ∷ []
+    else (224 + u / 4096) ∷ (128 + u / 64 % 64) ∷ (128 + u % 64) ∷ []
 
 -- the bytes of a text
 abbrev pub text_bytes : List ℕ → List ℕ
@@ -56,23 +56,23 @@ begins_three b = nat_le 224 b && nat_lt b 240
 -- the unit at a place, and the place after it
 unfoldable pub unit_at : List ℕ → ℕ → Result (ℕ × ℕ) TextFault
 unit_at bytes at =
-  let b = slice_index bytes at in
-  let c = slice_index bytes (at + 1) in
-  let d = slice_index bytes (at + 2) in
-  if nat_lt 0 b && nat_lt b 128 then Ok (b, at + 1)
-  else if not (begins_two b || begins_three b) then Err (BadText at)
-  else if not (nat_lt (at + 1) (length bytes) && may_follow b c) then Err (BadText (at + 1))
-  else if begins_two b then Ok ((b - 192) * 64 + (c - 128), at + 2)
-  else if not (nat_lt (at + 2) (length bytes) && is_tail d) then Err (BadText (at + 2))
-  else Ok ((b - 224) * 4096 + (c - 128) * 64 + (d - 128), at + 3)
+    let b = slice_index bytes at in
+    let c = slice_index bytes (at + 1) in
+    let d = slice_index bytes (at + 2) in
+    if nat_lt 0 b && nat_lt b 128 then Ok (b, at + 1)
+    else if not (begins_two b || begins_three b) then Err (BadText at)
+    else if not (nat_lt (at + 1) (length bytes) && may_follow b c) then Err (BadText (at + 1))
+    else if begins_two b then Ok ((b - 192) * 64 + (c - 128), at + 2)
+    else if not (nat_lt (at + 2) (length bytes) && is_tail d) then Err (BadText (at + 2))
+    else Ok ((b - 224) * 4096 + (c - 128) * 64 + (d - 128), at + 3)
 
 -- the units from a place on, at most n of them
 unfoldable pub units_from : ℕ → List ℕ → ℕ → Result (List ℕ) TextFault
 units_from zero bytes at = Ok []
 units_from (suc n) bytes at = if nat_lt at (length bytes) then (do
-    u ← unit_at bytes at
-    us ← units_from n bytes u.1
-    Ok (u.0 ∷ us)) else Ok []
+  u ← unit_at bytes at
+  us ← units_from n bytes u.1
+  Ok (u.0 ∷ us)) else Ok []
 
 -- the units of a whole text, or its first bad place
 unfoldable pub units_read : List ℕ → Result (List ℕ) TextFault

@@ -8,3 +8,6 @@ mod units;
 pub use fault::{CopyEnd, TextFault};
 pub use text::{is_paired, plain_text, units_of};
 pub use units::Units;
+
+#[cfg(test)]
+mod tests;

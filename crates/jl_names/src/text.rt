@@ -1,9 +1,10 @@
 //! Modified UTF-8 to units and units to UTF-8.
 
-ghost use Rattle.std.specs.Prelude.{◌≡◌, IfOk};
+ghost use Rattle.std.specs.Prelude.{◌≡◌, ◌≤◌, ◌<◌, ℕ, List, length, Ok, IfOk, IsTrue, encode_utf8};
 ghost use Rattle.std.specs.String.{string_bytes};
 ghost use Rattle.jl_logic.specs.Answers.{Gives};
-ghost use Rattle.jl_names.specs.Text.{units_read, told, plain, has_no_lone_surrogate, is_high as is_high_unit, is_low as is_low_unit};
+ghost use Rattle.jl_names.specs.Text.{units_read, unit_at, AreUnits, text_bytes, told, plain, has_no_lone_surrogate};
+ghost use Rattle.jl_names.specs.Text as texts;
 
 use crate::fault::TextFault;
 use crate::units::Units;
@@ -12,17 +13,127 @@ use std::alloc::Global;
 /// The units that a modified UTF-8 text spells (JVMS 4.4.7).
 ///
 /// `BadText(at)` comes exactly at the first byte, or at the end, with which no unit begins or goes on.
-pub fn units_of(_alloc: Global, _bytes: &[u8]) -> Result<Units, TextFault>
-    ensures { Gives told (λ units. units) result (units_read _bytes.now) }
+pub fn units_of(alloc: Global, bytes: &[u8]) -> Result<Units, TextFault>
+    // What is read is spelled so.
+    ensures found { IfOk result (λ units. AreUnits units × (text_bytes units ≡ bytes.now)) }
+    // What is spelled so is read, unless memory runs out.
+    ensures only { (units : List ℕ) → AreUnits units → text_bytes units ≡ bytes.now → Gives told (λ all. all) result (Ok units) }
+    // Which fault it is.
+    ensures exact { Gives told (λ units. units) result (units_read bytes.now) }
 {
-    Err(TextFault::NoMemory)
+    all_units(alloc, bytes)
 }
 
-/// The units as text, where a surrogate that stands alone becomes `?`.
-pub fn plain_text(_alloc: Global, _units: &[u16]) -> Result<String, TextFault>
-    ensures { IfOk result (λ text. string_bytes text ≡ plain _units.now) }
+fn all_units(alloc: Global, bytes: &[u8]) -> Result<Units, TextFault>
+    ensures { Gives told (λ units. units) result (units_read bytes.now) }
 {
-    Err(TextFault::NoMemory)
+    let mut units = Vec::new(alloc);
+    let mut at = 0;
+    for _ in 0..bytes.len() {
+        if at >= bytes.len() {
+            break;
+        }
+        let (unit, next) = unit_of(bytes, at)?;
+        units.push(unit)?;
+        at = next;
+    }
+    Ok(Units::from_vec(units))
+}
+
+/// The unit at a place, and the place after it.
+#[tactic(auto, unfolding(crate::specs::Text::unit_at))]
+fn unit_of(bytes: &[u8], at: usize) -> Result<(u16, usize), TextFault>
+    requires { at < length bytes.now }
+    ensures { result ≡ unit_at bytes.now at }
+{
+    let first = bytes[at];
+    if first > 0 && first < 128 {
+        return Ok((u16::from(first), at + 1));
+    }
+    let is_two = begins_two(first);
+    if !is_two && !begins_three(first) {
+        return Err(TextFault::BadText(at));
+    }
+    if at + 1 >= bytes.len() || !may_follow(first, bytes[at + 1]) {
+        return Err(TextFault::BadText(at + 1));
+    }
+    let second = u16::from(bytes[at + 1] - 128);
+    if is_two {
+        return Ok((u16::from(first - 192) * 64 + second, at + 2));
+    }
+    if at + 2 >= bytes.len() || !is_tail(bytes[at + 2]) {
+        return Err(TextFault::BadText(at + 2));
+    }
+    let third = u16::from(bytes[at + 2] - 128);
+    Ok((u16::from(first - 224) * 4096 + second * 64 + third, at + 3))
+}
+
+fn begins_two(byte: u8) -> bool
+    ensures { result ≡ texts.begins_two byte }
+{
+    byte == 192 || (194..224).contains(&byte)
+}
+
+fn begins_three(byte: u8) -> bool
+    ensures { result ≡ texts.begins_three byte }
+{
+    (224..240).contains(&byte)
+}
+
+fn is_tail(byte: u8) -> bool
+    ensures { result ≡ texts.is_tail byte }
+{
+    (128..192).contains(&byte)
+}
+
+fn may_follow(first: u8, byte: u8) -> bool
+    ensures value { result ≡ texts.may_follow first byte }
+    ensures tail { IsTrue result → (128 ≤ byte) × (byte < 192) }
+{
+    match first {
+        192 => byte == 128,
+        224 => (160..192).contains(&byte),
+        _ => is_tail(byte),
+    }
+}
+
+/// The units as UTF-8, a pair of surrogates as one character. A surrogate that stands alone becomes `?`.
+#[tactic(auto, unfolding(crate::specs::Text::plain))]
+pub fn plain_text(alloc: Global, units: &[u16]) -> Result<String, TextFault>
+    ensures { IfOk result (λ text. string_bytes text ≡ plain units.now) }
+{
+    let mut text = String::new(alloc);
+    let mut rest = units;
+    while let [first, others @ ..] = rest {
+        match others {
+            [second, after @ ..] if is_high(*first) && is_low(*second) => {
+                text.push(paired(*first, *second))?;
+                rest = after;
+            }
+            _ => {
+                text.push(character(*first))?;
+                rest = others;
+            }
+        }
+    }
+    Ok(text)
+}
+
+/// The character of a pair of surrogates.
+fn paired(high: u16, low: u16) -> char
+    requires high { IsTrue (texts.is_high high) }
+    requires low { IsTrue (texts.is_low low) }
+    ensures { result ≡ texts.paired high low }
+{
+    let code = 65536 + u32::from(high - 55296) * 1024 + u32::from(low - 56320);
+    char::from_u32(code).unwrap()
+}
+
+/// The character of a unit that stands alone.
+fn character(unit: u16) -> char
+    ensures { encode_utf8 result ≡ texts.plain_unit unit }
+{
+    char::from_u32(u32::from(unit)).unwrap_or('?')
 }
 
 /// Whether each surrogate stands in a pair, the high one first.
@@ -42,13 +153,13 @@ pub fn is_paired(units: &[u16]) -> bool
 }
 
 fn is_high(unit: u16) -> bool
-    ensures { result ≡ is_high_unit unit }
+    ensures { result ≡ texts.is_high unit }
 {
     (0xd800..0xdc00).contains(&unit)
 }
 
 fn is_low(unit: u16) -> bool
-    ensures { result ≡ is_low_unit unit }
+    ensures { result ≡ texts.is_low unit }
 {
     (0xdc00..0xe000).contains(&unit)
 }

@@ -51,7 +51,10 @@ impl Declaration {
     pub fn has_package(&self, p: &[u8]) -> bool
         ensures { IsTrue result ↔ Contains self.now.packages p.now }
     {
-        self.packages.as_slice().iter().any(|name| name.as_bytes() == p)
+        self.packages
+            .as_slice()
+            .iter()
+            .any(|name| name.as_bytes() == p)
     }
 }
 

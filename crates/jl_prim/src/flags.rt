@@ -33,12 +33,10 @@ impl Flags for AccessFlags {
 
     ghost exact = { ⊤ };
 
-    ghost table = {
-        (codes "PUBLIC", 1) ∷ (codes "PRIVATE", 2) ∷ (codes "PROTECTED", 4) ∷ (codes "STATIC", 8)
+    ghost table = { (codes "PUBLIC", 1) ∷ (codes "PRIVATE", 2) ∷ (codes "PROTECTED", 4) ∷ (codes "STATIC", 8)
         ∷ (codes "FINAL", 16) ∷ (codes "OPEN", 32) ∷ (codes "SUPER", 32) ∷ (codes "SYNCHRONIZED", 32)
         ∷ (codes "TRANSITIVE", 32) ∷ (codes "STATIC_PHASE", 64) ∷ (codes "NATIVE", 256)
-        ∷ (codes "INTERFACE", 512) ∷ (codes "ABSTRACT", 1024) ∷ (codes "MODULE", 32768) ∷ []
-    };
+        ∷ (codes "INTERFACE", 512) ∷ (codes "ABSTRACT", 1024) ∷ (codes "MODULE", 32768) ∷ [] };
 
     ghost set_of = { λ flags. flags.0 };
 

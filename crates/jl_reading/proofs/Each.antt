@@ -1,5 +1,5 @@
 -- Reading units one after the other, as a loop does.
-use Rattle.std.proofs.Common.{◌≡◌, ℕ, zero, suc, ◌-◌, ◌+◌, ◌≤◌, ◌<◌, List, [], ◌∷◌, ◌++◌, Option, None, Some, Result, Ok, Err, refl, sym, ◌∙◌, arith}
+use Rattle.std.proofs.Common.{◌≡◌, ℕ, suc, ◌-◌, ◌+◌, ◌≤◌, ◌<◌, List, [], ◌∷◌, ◌++◌, Option, None, Some, Result, Ok, Err, refl, sym, ◌∙◌, arith}
 use Rattle.std.specs.Prelude.{MatchOption, ⊤}
 use Rattle.jl_logic.specs.Answers.{Fails}
 use Rattle.jl_reading.specs.Reading.{◌>>=◌, each_at}

@@ -1,0 +1,72 @@
+-- What is launched: an end and a text.
+use Rattle.std.specs.Prelude.{◌≡◌, ℕ, List, [], ◌∷◌, ◌++◌, Option, None, Some, Result, Ok, Err, Bool, false, codes, MatchOption, ◌⊎◌}
+use Rattle.std.specs.List.{concat}
+use Rattle.jl_logic.specs.Lists.{IsFront}
+use Rattle.jl_prim.specs.declared.declaration.Observed.{Observed}
+use Rattle.jl_tree.specs.Files.{File}
+use Rattle.jl_config.specs.declared.fault.ResolveFault.{ResolveFault}
+use Rattle.jl_config.specs.declared.fault.ResolveFault.TheVariants as resolves
+use Rattle.jl_config.specs.Graphs.{Graph}
+use Rattle.jl_config.specs.Resolves.{Resolves}
+use Rattle.jlayers.specs.declared.end.FindFault.{FindFault}
+use Rattle.jlayers.specs.declared.end.Refusal.{Refusal}
+use Rattle.jlayers.specs.declared.end.Refusal.TheVariants.{Find, Resolve}
+use Rattle.jlayers.specs.declared.end.WordFault.TheVariants.{NotBuilt}
+use Rattle.jlayers.specs.declared.end.LaunchEnd.{LaunchEnd}
+use Rattle.jlayers.specs.declared.end.LaunchEnd.TheVariants.{Done, Words, Refused}
+use Rattle.jlayers.specs.declared.words.Asked.{Asked}
+use Rattle.jlayers.specs.Statuses.{IsStop}
+use Rattle.jlayers.specs.Command.{words_of}
+use Rattle.jlayers.specs.Found.{IsFound}
+use Rattle.jlayers.specs.Text.{words_line, refusal_line, graph_lines}
+
+-- the built-in java.base, which declares nothing yet
+abbrev pub built_in_base : Observed
+built_in_base = record {
+  declaration = record {
+    name = codes "java.base"; is_open = false; version = None; required = []; exports = [];
+    opens = []; uses = []; provides = []; packages = []; main = None
+  };
+  place = []
+}
+
+-- the end and the lines of a refused command
+abbrev pub IsRefused : Refusal → LaunchEnd → List (List ℕ) → Type 0
+IsRefused r end lines = (end ≡ Refused r) × (lines ≡ refusal_line r ∷ [])
+
+-- what a resolution is printed as
+abbrev pub IsPrinted : Result Graph ResolveFault → LaunchEnd → List (List ℕ) → Type 0
+IsPrinted (Ok g) end lines = (end ≡ Done) × (lines ≡ graph_lines g)
+IsPrinted (Err (resolves.NotFound name by)) end lines = IsRefused (Resolve (resolves.NotFound name by)) end lines
+IsPrinted (Err resolves.NoMemory) end lines = ⊥
+
+-- What comes of what was found. The parent is the empty configuration, whose number is 0.
+abbrev pub IsResolved : List (List ℕ) → Result (List Observed) FindFault → LaunchEnd → List (List ℕ) → Type 0
+IsResolved roots (Err f) end lines = IsRefused (Find f) end lines
+IsResolved roots (Ok found) end lines =
+  (answer : Result Graph ResolveFault) × Resolves 0 (built_in_base ∷ []) (record { 0 = 0 } ∷ []) found roots answer × IsPrinted answer end lines
+
+-- what is launched by words that ask
+abbrev pub IsAnswer : List File → Asked → LaunchEnd → List (List ℕ) → Type 0
+IsAnswer files asked end lines = (found : Result (List Observed) FindFault) × IsFound files asked.path found × IsResolved asked.roots found end lines
+
+-- The end and the text that the words have over these files.
+abbrev pub Launched : List (List ℕ) → List File → LaunchEnd → List ℕ → Type 0
+Launched words files end text =
+  (lines : List (List ℕ)) × (text ≡ concat lines)
+  × MatchOption (words_of words) ((end ≡ Words NotBuilt) × (lines ≡ words_line ∷ [])) (λ asked. IsAnswer files asked end lines)
+
+-- the sink has grown by this
+abbrev pub Grew : List ℕ → List ℕ → Option (List ℕ) → Type 0
+Grew before text after = after ≡ Some (before ++ text)
+
+-- the end and the text, or a stop with a front of the text
+abbrev pub Wrote : LaunchEnd → List ℕ → List ℕ → LaunchEnd → Option (List ℕ) → Type 0
+Wrote end text before answered after =
+  ((answered ≡ end) × Grew before text after) ⊎ (IsStop answered × ((front : List ℕ) × IsFront front text × Grew before front after))
+
+-- What a launch did: it wrote what is launched, or it was stopped before it wrote anything.
+abbrev pub Ends : List (List ℕ) → List File → List ℕ → LaunchEnd → Option (List ℕ) → Type 0
+Ends words files before answered after =
+  ((end : LaunchEnd) × (text : List ℕ) × Launched words files end text × Wrote end text before answered after)
+  ⊎ (IsStop answered × Grew before [] after)

@@ -1,0 +1,5 @@
+pub mod Statuses
+pub mod Command
+pub mod Found
+pub mod Text
+pub mod Launched

@@ -1,0 +1,80 @@
+-- What is printed, as lines.
+use Rattle.std.specs.Prelude.{ℕ, List, [], ◌∷◌, ◌++◌, map, filter, Option, None, Some, Bool, not, ◌&&◌, codes}
+use Rattle.std.specs.List.{flat_map}
+use Rattle.std.specs.Fmt.{decimal}
+use Rattle.jl_prim.specs.declared.declaration.Observed.{Observed}
+use Rattle.jl_modinfo.specs.declared.fault.InfoFault.{InfoFault}
+use Rattle.jl_modinfo.specs.declared.fault.InfoFault.TheVariants as infos
+use Rattle.jl_config.specs.declared.configuration.Read.{Read}
+use Rattle.jl_config.specs.declared.fault.ResolveFault.{ResolveFault}
+use Rattle.jl_config.specs.declared.fault.ResolveFault.TheVariants as resolves
+use Rattle.jl_config.specs.Graphs.{Graph}
+use Rattle.jlayers.specs.declared.end.FindFault.{FindFault}
+use Rattle.jlayers.specs.declared.end.FindFault.TheVariants as finds
+use Rattle.jlayers.specs.declared.end.Refusal.{Refusal}
+use Rattle.jlayers.specs.declared.end.Refusal.TheVariants as refusals
+use Rattle.jlayers.specs.Command.{is_text}
+
+-- a blank and a text
+abbrev pub field : List ℕ → List ℕ
+field text = codes " " ++ text
+
+-- A fault is the name of its variant and its fields in order, each after a blank.
+abbrev pub info_text : InfoFault → List ℕ
+info_text infos.BadMagic = codes "BadMagic"
+info_text infos.BadVersion = codes "BadVersion"
+info_text (infos.Short at) = codes "Short" ++ field (decimal at)
+info_text (infos.BadPool i) = codes "BadPool" ++ field (decimal i)
+info_text (infos.NotModule name) = codes "NotModule" ++ field name
+info_text infos.NoModuleAttribute = codes "NoModuleAttribute"
+info_text (infos.BadIndex at) = codes "BadIndex" ++ field (decimal at)
+info_text (infos.Repeated table name) = codes "Repeated" ++ field table ++ field name
+info_text infos.BaseRule = codes "BaseRule"
+info_text (infos.PackageMissing name) = codes "PackageMissing" ++ field name
+info_text infos.Trailing = codes "Trailing"
+info_text (infos.NotBuilt at) = codes "NotBuilt" ++ field (decimal at)
+info_text infos.NoMemory = codes "NoMemory"
+
+abbrev pub find_text : FindFault → List ℕ
+find_text (finds.Info path f) = codes "Info" ++ field path ++ field (info_text f)
+find_text (finds.TooLarge path n) = codes "TooLarge" ++ field path ++ field (decimal n)
+find_text finds.ReadFault = codes "ReadFault"
+find_text finds.NoMemory = codes "NoMemory"
+
+-- an absent name is a dash
+abbrev pub optional_text : Option (List ℕ) → List ℕ
+optional_text None = codes "-"
+optional_text (Some name) = name
+
+abbrev pub resolve_text : ResolveFault → List ℕ
+resolve_text (resolves.NotFound name by) = codes "NotFound" ++ field name ++ field (optional_text by)
+resolve_text resolves.NoMemory = codes "NoMemory"
+
+abbrev pub refusal_text : Refusal → List ℕ
+refusal_text (refusals.Find f) = codes "Find" ++ field (find_text f)
+refusal_text (refusals.Resolve f) = codes "Resolve" ++ field (resolve_text f)
+
+-- ---- lines, each with its end
+
+abbrev pub line : List ℕ → List ℕ
+line text = text ++ 10 ∷ []
+
+abbrev pub words_line : List ℕ
+words_line = line (codes "words: NotBuilt")
+
+abbrev pub refusal_line : Refusal → List ℕ
+refusal_line r = line (codes "refused: " ++ refusal_text r)
+
+abbrev pub module_line : Observed → List ℕ
+module_line o = line (codes "module " ++ o.declaration.name)
+
+abbrev pub read_line : Read → List ℕ
+read_line r = line (codes "  reads " ++ r.name)
+
+-- what a module reads without itself
+abbrev pub other_reads : List Read → Observed → List Read
+other_reads reads o = filter (λ r. is_text r.reader o.declaration.name && not (is_text r.name o.declaration.name)) reads
+
+-- each module in order, and under it what it reads
+abbrev pub graph_lines : Graph → List (List ℕ)
+graph_lines g = flat_map (λ o. module_line o ∷ map read_line (other_reads g.reads o)) g.modules
