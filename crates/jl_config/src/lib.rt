@@ -3,8 +3,15 @@
 
 mod configuration;
 mod fault;
+mod law;
+mod members;
+mod missing;
+mod places;
+mod readings;
 mod resolution;
+mod universe;
 
 pub use configuration::{Configuration, Read};
 pub use fault::ResolveFault;
+pub use law::resolves_once;
 pub use resolution::resolve;

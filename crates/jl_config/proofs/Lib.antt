@@ -1,0 +1,8 @@
+pub mod Chains
+pub mod Finds
+pub mod Leasts
+pub mod Lists
+pub mod Orders
+pub mod Grown
+pub mod Unique
+pub mod Whole
