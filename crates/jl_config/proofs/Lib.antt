@@ -6,3 +6,4 @@ pub mod Orders
 pub mod Grown
 pub mod Unique
 pub mod Whole
+pub mod Always
