@@ -53,18 +53,18 @@ some_here name w ws same e =
     let here : place_named name (w ∷ ws) ≡ Some 0 = rw same refl in
     absurd cc
 
+cut_by : (w : Observed) (ws : List Observed) (o : Observed) (c : Ordering) → module_cmp w o ≡ c → RisesBy module_cmp (w ∷ ws) → place_named (name_of o) (w ∷ ws) ≡ None → (place_named (name_of o) ws ≡ None → Cut ws o) → Cut (w ∷ ws) o
+cut_by w ws o Less f up e more =
+    let rest = more (none_behind (name_of o) w ws (less_differs (name_of w) (name_of o) f) e) in
+    record { low = w ∷ rest.low; high = rest.high; whole = ap (λ (l : List Observed). w ∷ l) rest.whole; below = (f, rest.below); above = rest.above }
+cut_by w ws o Equal f up e more = absurd (some_here (name_of o) w ws (tied_same (name_of w) (name_of o) f) e)
+cut_by w ws o Greater f up e more =
+    let less : module_cmp o w ≡ Less = less_back (name_of w) (name_of o) f in
+    record { low = []; high = w ∷ ws; whole = refl; below = tt; above = (less, above_all o w ws less up.0) }
+
 cut_at : (os : List Observed) (o : Observed) → RisesBy module_cmp os → place_named (name_of o) os ≡ None → Cut os o
 cut_at [] o up e = record { low = []; high = []; whole = refl; below = tt; above = tt }
-cut_at (w ∷ ws) o up e = by (module_cmp w o) refl
-  where
-    by : (c : Ordering) → module_cmp w o ≡ c → Cut (w ∷ ws) o
-    by Less f =
-        let rest = cut_at ws o up.1 (none_behind (name_of o) w ws (less_differs (name_of w) (name_of o) f) e) in
-        record { low = w ∷ rest.low; high = rest.high; whole = ap (λ (l : List Observed). w ∷ l) rest.whole; below = (f, rest.below); above = rest.above }
-    by Equal f = absurd (some_here (name_of o) w ws (tied_same (name_of w) (name_of o) f) e)
-    by Greater f =
-        let less : module_cmp o w ≡ Less = less_back (name_of w) (name_of o) f in
-        record { low = []; high = w ∷ ws; whole = refl; below = tt; above = (less, above_all o w ws less up.0) }
+cut_at (w ∷ ws) o up e = cut_by w ws o (module_cmp w o) refl up e (λ k. cut_at ws o up.1 k)
 
 differ_above : (o : Observed) (ws : List Observed) → AllByRecursion (λ w. module_cmp o w ≡ Less) ws → AllByRecursion (λ w. pointwise nat_eq (name_of w) (name_of o) ≡ false) ws
 differ_above o [] h = tt
@@ -135,10 +135,13 @@ reads_exist id ms up =
 
 -- ---- the whole
 
-differs_ok : (g : Graph) → Ok {E = ResolveFault} g ≢ Err NoMemory
+abbrev answered : Result Graph ResolveFault → Result Graph ResolveFault
+answered r = r
+
+differs_ok : (g : Graph) → answered (Ok g) ≢ Err NoMemory
 differs_ok g e = absurd cc
 
-differs_missing : (name : List ℕ) (by : Option (List ℕ)) → Err {T = Graph} (NotFound name by) ≢ Err NoMemory
+differs_missing : (name : List ℕ) (by : Option (List ℕ)) → answered (Err (NotFound name by)) ≢ Err NoMemory
 differs_missing name by e = absurd cc
 
 pub resolves_always : (known : ℕ) (before : List Observed) (parents : List ConfigId) (after : List Observed) (roots : List (List ℕ))
