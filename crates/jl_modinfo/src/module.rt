@@ -166,7 +166,7 @@ fn unbuilt_table(bytes: &[u8], at: usize) -> Result<usize, InfoFault>
 }
 
 fn copied(name: Option<&Name>) -> Result<Option<Name>, CopyEnd>
-    ensures { IfOk result (λ it. it ≡ option_copied name) }
+    ensures { IfOk result (λ it. it ≡ option_copied name.entry) }
 {
     match name {
         Some(name) => Ok(Some(name.copy()?)),

@@ -29,8 +29,8 @@ pub fn read_info(
     let at = front(bytes)?;
     let (pool, at) = pool(alloc, bytes, at)?;
     let at = empty_class(alloc, &pool, bytes, at)?;
-    let (module, at) = attributes(alloc, &pool, bytes, at)?;
-    whole(alloc, found, bytes, module, at)
+    let (declared, at) = attributes(alloc, &pool, bytes, at)?;
+    whole(alloc, found, bytes, declared, at)
 }
 
 fn pool(alloc: Global, bytes: &[u8], at: usize) -> Result<(Pool, usize), InfoFault>
@@ -46,31 +46,31 @@ fn whole(
     alloc: Global,
     found: &[Name],
     bytes: &[u8],
-    module: Option<Module>,
+    declared: Option<Module>,
     at: usize,
 ) -> Result<Declaration, InfoFault>
-    ensures { Gives told (λ d. d) result (whole_file found.now bytes.now (option_to_list module, at)) }
+    ensures { Gives told (λ d. d) result (whole_file found.now bytes.now (option_to_list declared, at)) }
 {
-    let Some(module) = module else {
+    let Some(declared) = declared else {
         return Err(InfoFault::NoModuleAttribute);
     };
     if at != bytes.len() {
         return Err(InfoFault::Trailing);
     }
-    if !is_base_right(module.name.as_str(), module.required.as_slice()) {
+    if !is_base_right(declared.name.as_str(), declared.required.as_slice()) {
         return Err(InfoFault::BaseRule);
     }
-    declaration(alloc, module, found)
+    declaration(alloc, declared, found)
 }
 
-fn declaration(alloc: Global, module: Module, found: &[Name]) -> Result<Declaration, InfoFault>
-    ensures { Gives told (λ d. d) result (Ok (declaration_of module found.now)) }
+fn declaration(alloc: Global, declared: Module, found: &[Name]) -> Result<Declaration, InfoFault>
+    ensures { Gives told (λ d. d) result (Ok (declaration_of declared found.now)) }
 {
     Ok(Declaration {
-        name: module.name,
-        is_open: module.is_open,
-        version: module.version,
-        required: module.required,
+        name: declared.name,
+        is_open: declared.is_open,
+        version: declared.version,
+        required: declared.required,
         exports: Items::new(alloc),
         opens: Items::new(alloc),
         uses: Items::new(alloc),
