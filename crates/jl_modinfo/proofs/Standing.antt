@@ -1,12 +1,12 @@
 -- Texts that stand in bytes, joined, split and cut, and the numbers among them.
-use Rattle.std.proofs.Common.{◌≡◌, ℕ, zero, suc, ◌+◌, ◌-◌, ◌*◌, ◌/◌, ◌%◌, ◌^◌, ◌<◌, ◌≤◌, min, List, [], ◌∷◌, ◌++◌, length, take, drop, slice_index, Bool, true, false, cond, ltb, Result, Ok, Err, refl, sym, ap, ◌∙◌, subst, inl, inr, arith, append_assoc}
+use Rattle.std.proofs.Common.{◌≡◌, ℕ, zero, suc, ◌+◌, ◌-◌, ◌*◌, ◌/◌, ◌%◌, ◌^◌, ◌<◌, ◌≤◌, min, List, [], ◌∷◌, ◌++◌, length, take, drop, slice_index, Bool, true, false, not, cond, ltb, Result, Ok, Err, refl, sym, ap, ◌∙◌, subst, inl, inr, arith, append_assoc}
 use Rattle.std.proofs.lemmas.List.{append-nil, length-append, length-drop, length-take, length-take-le, take-append-le, take-take, drop-drop, drop-take, drop-append-le, take_all, take_at, drop_at, get_or-take, get_or_past, get_or-drop}
 use Rattle.std.proofs.Math.Seq.{take-add}
 use Rattle.std.proofs.lemmas.Bool.{cases_lt, ltb-false, le-ltb}
 use Rattle.std.specs.Int.{byte_at, bytes_high_first}
 use Rattle.byteorder.specs.Endian.{big_from, big_number, big_bytes}
 use Rattle.byteorder.specs.Numbers.{big_from-lt, big_from-take, big_number-reads_back, length-bytes_high_first}
-use Rattle.jl_reading.specs.Reading.{Stands, IsBytes, number_at, two, four}
+use Rattle.jl_reading.specs.Reading.{◌>>=◌, Stands, IsBytes, number_at, two, four}
 use Rattle.jl_reading.proofs.Steps.{guard_ok, ok_is}
 
 -- ---- texts
@@ -154,3 +154,25 @@ number_read short k bytes at n next small s =
     let read : big_number k (drop at bytes) ≡ n =
       sym (big_from-take 0 k k (drop at bytes) (omega arith)) ∙ ap (big_from 0 k) there ∙ ap (big_from 0 k) (sym (append-nil (big_bytes k n))) ∙ big_number-reads_back k n [] small in
     rw (fits, read, e) refl
+
+-- the number is a known one
+pub known : {k : ℕ} {bytes : List ℕ} {at m next : ℕ} (n : ℕ) → m ≡ n → Number k bytes at m next → Stands bytes at (big_bytes k n) next
+known {k} {bytes} {at} {m} {next} n e number = subst (λ x. Stands bytes at (big_bytes k x) next) e number.stands
+
+-- the end is a known place
+pub ends_at : {bytes t : List ℕ} {at next : ℕ} (end : ℕ) → next ≡ end → Stands bytes at t next → Stands bytes at t end
+ends_at {bytes} {t} {at} {next} end e s = subst (λ x. Stands bytes at t x) e s
+
+-- ---- steps of a reading
+
+-- a step that gives a value, and the rest with it
+pub bind_to : {A B F : Type 0} {r : Result A F} {x : A} {y : B} (f : A → Result B F) → r ≡ Ok x → f x ≡ Ok y → (r >>= f) ≡ Ok y
+bind_to f e g = rw e g
+
+pub not_ok : {A F : Type 0} (b : Bool) (d : F) (r : Result A F) (y : A) → cond (not b) (Err d) r ≡ Ok y → (b ≡ true) × (r ≡ Ok y)
+not_ok true d r y e = (refl, e)
+not_ok false d r y e = absurd cc
+
+pub else_ok : {A F : Type 0} (b : Bool) (d : F) (r : Result A F) (y : A) → cond b r (Err d) ≡ Ok y → (b ≡ true) × (r ≡ Ok y)
+else_ok true d r y e = (refl, e)
+else_ok false d r y e = absurd cc
