@@ -1,2 +1,4 @@
 pub mod Standing
 pub mod FrontLaws
+pub mod NameLaws
+pub mod ModuleLaws
