@@ -2,3 +2,4 @@ pub mod Standing
 pub mod FrontLaws
 pub mod NameLaws
 pub mod ModuleLaws
+pub mod FileLaws

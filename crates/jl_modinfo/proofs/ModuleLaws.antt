@@ -21,7 +21,7 @@ use Rattle.jl_modinfo.proofs.Standing.{Number, two_read, number_read, join, firs
 
 -- ---- indices
 
-named_ok : {A : Type 0} (at : ℕ) (o : Option A) (x : A) → named_or at o ≡ Ok x → o ≡ Some x
+pub named_ok : {A : Type 0} (at : ℕ) (o : Option A) (x : A) → named_or at o ≡ Ok x → o ≡ Some x
 named_ok at None x e = absurd cc
 named_ok at (Some y) x e = ap (λ z. Some z) (ok_is y x e)
 
