@@ -2,7 +2,10 @@
 use Rattle.std.proofs.Common.{◌≡◌, ℕ, zero, suc, ◌<◌, List, [], ◌∷◌, ◌++◌, length, map, Bool, true, false, refl, sym, ap, ◌∙◌, inl, inr, arith}
 use Rattle.std.specs.Prelude.{◌⊎◌, ◌||◌, Contains, nat_eq}
 use Rattle.std.proofs.lemmas.List.Elements.{Contains-push_cases, Contains-append_cases, Contains-append_right, Contains-append_left, Contains-push}
-use Rattle.std.specs.Cmp.Lexicographic.{bytes_decides, pointwise}
+use Rattle.std.specs.Cmp.Lexicographic.{bytes_decides, pointwise, nat_list_eq_equiv}
+use Rattle.std.specs.List.{list_any}
+use Rattle.std.proofs.lemmas.List.{map_push}
+use Rattle.indexmap.specs.IndexSet.{insert_key}
 use Rattle.jl_prim.specs.declared.declaration.Requires.{Requires}
 use Rattle.jl_logic.specs.Lists.{AreDistinct}
 use Rattle.jl_modinfo.specs.Meaning.{is_required, is_text}
@@ -55,3 +58,18 @@ required_not name [] n = refl
 required_not name (r ∷ rs) n =
     apart_by (is_text r.name name) (is_required name rs) (λ e. n (contains_first name r.name (names rs) ((bytes_decides r.name name).0 e)))
       (required_not name rs (λ c. n (Contains-append_right (r.name ∷ []) (names rs) name c)))
+
+text_symm : (a b : List ℕ) → is_text a b ≡ is_text b a
+text_symm a b = nat_list_eq_equiv.symm a b
+
+-- a name is among the names where an entry is for it
+pub among_names : (name : List ℕ) (done : List Requires) → list_any (pointwise nat_eq name) (names done) ≡ is_required name done
+among_names name [] = refl
+among_names name (r ∷ rs) = rw (among_names name rs, text_symm name r.name) refl
+
+-- the names after one more entry
+pub names_with : (keys : List (List ℕ)) (name : List ℕ) (done : List Requires) (e : Requires) → keys ≡ names done → name ≡ e.name → is_required e.name done ≡ false
+    → insert_key (pointwise nat_eq) keys name ≡ names (done ++ e ∷ [])
+names_with keys name done e same is fresh =
+    let none : list_any (pointwise nat_eq name) keys ≡ false = rw (same, is) (among_names e.name done ∙ fresh) in
+    rw (none, same, is) (sym (map_push (λ (r : Requires). r.name) done e))

@@ -7,6 +7,7 @@ mod front;
 mod meaning;
 mod module;
 mod reading;
+mod table;
 
 pub use fault::InfoFault;
 pub use reading::read_info;

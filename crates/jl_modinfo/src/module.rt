@@ -1,14 +1,16 @@
 //! Module attributes (JVMS 4.7.25).
 
-ghost use Rattle.std.specs.Prelude.{◌≡◌, ◌≤◌, List, [], length, IfOk};
+ghost use Rattle.std.specs.Prelude.{◌≡◌, ◌≤◌, List, [], length, IfOk, false};
 ghost use Rattle.std.specs.Option.{option_copied};
 ghost use Rattle.jl_reading.specs.Reading.{each_at};
 ghost use Rattle.jl_logic.specs.Answers.{Gives};
 ghost use Rattle.jl_modinfo.specs.Faults.{told};
+ghost use Rattle.jl_modinfo.specs.Meaning.{is_required};
 ghost use Rattle.jl_modinfo.specs.Reading.{module_name_at, version_at, requires_at, requires_table_at, unbuilt_at, module_at};
 
 use crate::fault::{InfoFault, repeated};
-use crate::meaning::{is_open, is_required, is_static, is_transitive, module_name};
+use crate::meaning::{is_open, is_static, is_transitive, module_name};
+use crate::table::RequiresTable;
 use jl_pool::Pool;
 use jl_prim::{Copied, CopyEnd, Items, Name, Requires};
 use jl_reading::u16_at;
@@ -114,14 +116,14 @@ fn requires_entries(
     ensures exact { Gives told (λ x. x) result (each_at (requires_at pool.now bytes.now) [] count at) }
     ensures within { IfOk result (λ x. x.1 ≤ length bytes.now) }
 {
-    let mut required = Items::new(alloc);
+    let mut table = RequiresTable::new(alloc);
     let mut next = at;
     for _ in 0..count {
-        let (entry, after) = requires_entry(alloc, pool, bytes, required.as_slice(), next)?;
-        required.push(entry)?;
+        let (entry, after) = requires_entry(alloc, pool, bytes, &table, next)?;
+        table = table.with(entry)?;
         next = after;
     }
-    Ok((required, next))
+    Ok((table.into_entries(), next))
 }
 
 /// The entry at a place, behind the entries that were read so far.
@@ -130,15 +132,16 @@ fn requires_entry(
     alloc: Global,
     pool: &Pool,
     bytes: &[u8],
-    done: &[Requires],
+    done: &RequiresTable,
     at: usize,
 ) -> Result<(Requires, usize), InfoFault>
     requires { at ≤ length bytes.now }
     ensures exact { Gives told (λ x. x) result (requires_at pool.now bytes.now done.now at) }
+    ensures fresh { IfOk result (λ x. is_required x.0.name done.now ≡ false) }
     ensures within { IfOk result (λ x. x.1 ≤ length bytes.now) }
 {
     let (name, at) = name_of(pool, bytes, at)?;
-    if is_required(done, name.as_str()) {
+    if done.has(name) {
         return repeated(alloc, "requires", name.as_str());
     }
     let (flags, at) = u16_at::<InfoFault>(bytes, at)?;

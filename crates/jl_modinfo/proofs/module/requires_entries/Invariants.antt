@@ -6,5 +6,5 @@ use Rattle.jl_modinfo.proofs.module.requires_entries.Given as goal
 abbrev pub invariant-loop : goal.invariant-loop
 invariant-loop l = record {
   within : l.next ≤ length l.bytes;
-  reads : each_at (requires_at l.pool l.bytes) l.required (l.count - l.counter) l.next ≡ each_at (requires_at l.pool l.bytes) [] l.count l.at;
+  reads : each_at (requires_at l.pool l.bytes) l.table (l.count - l.counter) l.next ≡ each_at (requires_at l.pool l.bytes) [] l.count l.at;
 }
