@@ -1,5 +1,6 @@
 -- A pool is the list of its entries, index 0 the first. What stands at an index, and which references are right (JVMS 4.4).
-use Rattle.std.specs.Prelude.{ℕ, List, Option, None, Some, Bool, true, false, ◌&&◌, slice_get, option_map, is_some}
+use Rattle.std.specs.Prelude.{ℕ, ℤ, List, Option, None, Some, Bool, true, false, ◌&&◌, slice_get, option_map, is_some}
+use Rattle.std.specs.Int.{cast_signed, w32, w64}
 use Rattle.jl_names.specs.Text.{plain}
 use Rattle.jl_pool.specs.declared.entry.Entry.{Entry}
 use Rattle.jl_pool.specs.declared.entry.Entry.TheVariants as entries
@@ -27,6 +28,81 @@ module_name _ = None
 
 abbrev pub module_of : List Entry → ℕ → Option ℕ
 module_of pool i = module_name (slice_get pool i)
+
+abbrev pub package_name : Option Entry → Option ℕ
+package_name (Some (entries.Package name)) = Some name
+package_name _ = None
+
+abbrev pub package_of : List Entry → ℕ → Option ℕ
+package_of pool i = package_name (slice_get pool i)
+
+abbrev pub string_text : Option Entry → Option ℕ
+string_text (Some (entries.String text)) = Some text
+string_text _ = None
+
+abbrev pub string_of : List Entry → ℕ → Option ℕ
+string_of pool i = string_text (slice_get pool i)
+
+-- the indices of a name and a descriptor
+abbrev pub name_and_desc : Option Entry → Option (ℕ × ℕ)
+name_and_desc (Some (entries.NameAndType name desc)) = Some (name, desc)
+name_and_desc _ = None
+
+abbrev pub name_and_type_of : List Entry → ℕ → Option (ℕ × ℕ)
+name_and_type_of pool i = name_and_desc (slice_get pool i)
+
+-- the tag of a member, its class, and its name and type
+abbrev pub member_parts : Option Entry → Option (ℕ × ℕ × ℕ)
+member_parts (Some (entries.Field class name)) = Some (9, class, name)
+member_parts (Some (entries.Method class name)) = Some (10, class, name)
+member_parts (Some (entries.InterfaceMethod class name)) = Some (11, class, name)
+member_parts _ = None
+
+abbrev pub member_of : List Entry → ℕ → Option (ℕ × ℕ × ℕ)
+member_of pool i = member_parts (slice_get pool i)
+
+-- bits as a signed number
+abbrev pub integer_value : Option Entry → Option ℤ
+integer_value (Some (entries.Integer bits)) = Some (cast_signed w32 bits)
+integer_value _ = None
+
+abbrev pub integer_of : List Entry → ℕ → Option ℤ
+integer_of pool i = integer_value (slice_get pool i)
+
+abbrev pub long_value : Option Entry → Option ℤ
+long_value (Some (entries.Long bits)) = Some (cast_signed w64 bits)
+long_value _ = None
+
+abbrev pub long_of : List Entry → ℕ → Option ℤ
+long_of pool i = long_value (slice_get pool i)
+
+-- the tag with which an entry begins
+abbrev pub entry_tag : Entry → Option ℕ
+entry_tag entries.Unused = None
+entry_tag (entries.Utf8 units) = Some 1
+entry_tag (entries.Integer n) = Some 3
+entry_tag (entries.Float n) = Some 4
+entry_tag (entries.Long n) = Some 5
+entry_tag (entries.Double n) = Some 6
+entry_tag (entries.Class i) = Some 7
+entry_tag (entries.String i) = Some 8
+entry_tag (entries.Field i j) = Some 9
+entry_tag (entries.Method i j) = Some 10
+entry_tag (entries.InterfaceMethod i j) = Some 11
+entry_tag (entries.NameAndType i j) = Some 12
+entry_tag (entries.MethodHandle kind i) = Some 15
+entry_tag (entries.MethodType i) = Some 16
+entry_tag (entries.Dynamic b i) = Some 17
+entry_tag (entries.InvokeDynamic b i) = Some 18
+entry_tag (entries.Module i) = Some 19
+entry_tag (entries.Package i) = Some 20
+
+abbrev pub some_tag : Option Entry → Option ℕ
+some_tag (Some e) = entry_tag e
+some_tag None = None
+
+abbrev pub tag_of : List Entry → ℕ → Option ℕ
+tag_of pool i = some_tag (slice_get pool i)
 
 abbrev pub is_utf8 : Option Entry → Bool
 is_utf8 (Some (entries.Utf8 units)) = true
@@ -67,6 +143,10 @@ abbrev pub is_wide : Entry → Bool
 is_wide (entries.Long n) = true
 is_wide (entries.Double n) = true
 is_wide _ = false
+
+abbrev pub is_some_wide : Option Entry → Bool
+is_some_wide (Some e) = is_wide e
+is_some_wide None = false
 
 abbrev pub is_unused : Entry → Bool
 is_unused entries.Unused = true

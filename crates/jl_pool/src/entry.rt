@@ -2,6 +2,7 @@
 
 ghost use Rattle.std.specs.Prelude.{◌≡◌};
 ghost use Rattle.jl_names.specs.Text.{plain};
+ghost use Rattle.jl_pool.specs.Pool.{entry_tag};
 
 use jl_names::Units;
 use jl_prim::Name;
@@ -87,4 +88,32 @@ pub enum Entry {
     Module(u16),
     /// A package, by the index of its name.
     Package(u16),
+}
+
+impl Entry {
+    /// The tag with which an entry begins. None where no entry stands.
+    pub fn tag(&self) -> Option<u8>
+        ensures { result ≡ entry_tag self.now }
+    {
+        Some(match self {
+            Entry::Unused => return None,
+            Entry::Utf8(_) => 1,
+            Entry::Integer(_) => 3,
+            Entry::Float(_) => 4,
+            Entry::Long(_) => 5,
+            Entry::Double(_) => 6,
+            Entry::Class(_) => 7,
+            Entry::String(_) => 8,
+            Entry::Field(_, _) => 9,
+            Entry::Method(_, _) => 10,
+            Entry::InterfaceMethod(_, _) => 11,
+            Entry::NameAndType(_, _) => 12,
+            Entry::MethodHandle(_, _) => 15,
+            Entry::MethodType(_) => 16,
+            Entry::Dynamic(_, _) => 17,
+            Entry::InvokeDynamic(_, _) => 18,
+            Entry::Module(_) => 19,
+            Entry::Package(_) => 20,
+        })
+    }
 }

@@ -5,8 +5,12 @@ mod entry;
 mod fault;
 mod pool;
 mod reading;
+mod references;
 
 pub use entry::{Entry, Text};
 pub use fault::PoolFault;
 pub use pool::Pool;
 pub use reading::read_pool;
+
+#[cfg(test)]
+mod tests;

@@ -2,7 +2,7 @@
 
 ghost use Rattle.std.specs.Prelude.{◌≡◌};
 ghost use Rattle.std.specs.Option.{option_copied};
-ghost use Rattle.jl_pool.specs.Pool.{utf8_of, text_of, class_of, module_of};
+ghost use Rattle.jl_pool.specs.Pool.{tag_of, utf8_of, text_of, class_of, module_of, package_of, string_of, name_and_type_of, member_of, integer_of, long_of};
 
 use crate::entry::Entry;
 use jl_names::Units;
@@ -30,6 +30,16 @@ impl Pool {
         ensures { result ≡ entries.items }
     {
         Pool { entries }
+    }
+
+    /// The tag of the entry at an index (JVMS 4.4, table 4.4-A).
+    pub fn tag(&self, i: u16) -> Option<u8>
+        ensures { result ≡ tag_of self.now i }
+    {
+        match self.entries.get(i as usize) {
+            Some(entry) => entry.tag(),
+            None => None,
+        }
     }
 
     /// The units of the Utf8 entry at an index.
@@ -68,6 +78,68 @@ impl Pool {
     {
         match self.entries.get(i as usize) {
             Some(Entry::Module(name)) => Some(*name),
+            _ => None,
+        }
+    }
+
+    /// The index of the name of the Package entry at an index.
+    pub fn package(&self, i: u16) -> Option<u16>
+        ensures { result ≡ package_of self.now i }
+    {
+        match self.entries.get(i as usize) {
+            Some(Entry::Package(name)) => Some(*name),
+            _ => None,
+        }
+    }
+
+    /// The index of the text of the String entry at an index.
+    pub fn string(&self, i: u16) -> Option<u16>
+        ensures { result ≡ string_of self.now i }
+    {
+        match self.entries.get(i as usize) {
+            Some(Entry::String(text)) => Some(*text),
+            _ => None,
+        }
+    }
+
+    /// The indices of the name and the descriptor of the NameAndType entry at an index.
+    pub fn name_and_type(&self, i: u16) -> Option<(u16, u16)>
+        ensures { result ≡ name_and_type_of self.now i }
+    {
+        match self.entries.get(i as usize) {
+            Some(Entry::NameAndType(name, desc)) => Some((*name, *desc)),
+            _ => None,
+        }
+    }
+
+    /// The tag, the index of the class, and the index of the name and type of the member at an index.
+    pub fn member(&self, i: u16) -> Option<(u8, u16, u16)>
+        ensures { result ≡ member_of self.now i }
+    {
+        match self.entries.get(i as usize) {
+            Some(Entry::Field(class, name)) => Some((9, *class, *name)),
+            Some(Entry::Method(class, name)) => Some((10, *class, *name)),
+            Some(Entry::InterfaceMethod(class, name)) => Some((11, *class, *name)),
+            _ => None,
+        }
+    }
+
+    /// The value of the Integer entry at an index.
+    pub fn integer(&self, i: u16) -> Option<i32>
+        ensures { result ≡ integer_of self.now i }
+    {
+        match self.entries.get(i as usize) {
+            Some(Entry::Integer(bits)) => Some(bits.cast_signed()),
+            _ => None,
+        }
+    }
+
+    /// The value of the Long entry at an index.
+    pub fn long(&self, i: u16) -> Option<i64>
+        ensures { result ≡ long_of self.now i }
+    {
+        match self.entries.get(i as usize) {
+            Some(Entry::Long(bits)) => Some(bits.cast_signed()),
             _ => None,
         }
     }
