@@ -1,9 +1,10 @@
 -- A declaration file: what is read stands there, and what stands there is read.
 use Rattle.std.proofs.Common.{◌≡◌, ℕ, zero, suc, ◌+◌, ◌<◌, ◌≤◌, List, [], ◌∷◌, ◌++◌, length, map, take, Bool, true, false, not, cond, eqb, ltb, Option, None, Some, Result, Ok, Err, refl, sym, ap, ◌∙◌, subst, inl, inr, arith}
-use Rattle.std.specs.Prelude.{◌⊎◌, IsTrue, codes}
+use Rattle.std.specs.Prelude.{◌⊎◌, IsTrue, IfOk, codes}
 use Rattle.std.proofs.lemmas.Bool.{eqb-true, eq-eqb, ltb-false, le-ltb}
 use Rattle.std.proofs.lemmas.List.{length-take-le}
 use Rattle.std.specs.Cmp.Lexicographic.{bytes_decides}
+use Rattle.jl_logic.specs.Answers.{Gives}
 use Rattle.jl_reading.specs.Reading.{◌>>=◌, Stands, IsBytes, number_at, each_at, two, four}
 use Rattle.jl_reading.proofs.Steps.{bind_ok, guard_ok, ok_is}
 use Rattle.jl_prim.specs.declared.declaration.Declaration.{Declaration}
@@ -12,10 +13,11 @@ use Rattle.jl_pool.specs.declared.fault.PoolFault.{PoolFault}
 use Rattle.jl_pool.specs.Pool.{text_of}
 use Rattle.jl_pool.specs.Reading.{pool_at}
 use Rattle.jl_pool.specs.Spelling.{StandsPool}
+use Rattle.jl_pool.proofs.Whole.{pool_stands, pool_again}
 use Rattle.jl_modinfo.specs.declared.module.Module.{Module}
 use Rattle.jl_modinfo.specs.declared.fault.InfoFault.{InfoFault}
 use Rattle.jl_modinfo.specs.declared.fault.InfoFault.TheVariants as faults
-use Rattle.jl_modinfo.specs.Faults.{short, named_or, pool_or, of_pool}
+use Rattle.jl_modinfo.specs.Faults.{told, short, named_or, pool_or, of_pool}
 use Rattle.jl_modinfo.specs.Meaning.{is_text, keeps_base_rule}
 use Rattle.jl_modinfo.specs.Info.{Body, body_bytes, back_bytes, IsInfo}
 use Rattle.jl_modinfo.specs.Reading.{content_end, module_at, module_attribute_at, begins, attribute_at, attributes_at, whole, declaration_of, front_at, empty_class_at, info_of}
@@ -236,9 +238,6 @@ pool_ok : {A : Type 0} (r : Result A PoolFault) (x : A) → pool_or r ≡ Ok x �
 pool_ok (Ok y) x e = ap (λ z. Ok z) (ok_is y x e)
 pool_ok (Err f) x e = absurd cc
 
-abbrev pub PoolStands : List ℕ → Type 0
-PoolStands bytes = (at : ℕ) (x : List Entry × ℕ) → at ≤ length bytes → pool_at bytes at ≡ Ok x → StandsPool bytes at x.0 x.1
-
 -- the file of a module
 spelled : (bytes : List ℕ) (found : List (List ℕ)) (pool : List Entry) (at next end : ℕ) (m : Module) → Front bytes 8 → StandsPool bytes 8 pool at → EmptyClass pool bytes at next
     → Stands bytes next (two 1) (next + 2) → Attribute pool bytes (next + 2) end m → end ≡ length bytes → IsTrue (keeps_base_rule m.name m.required) → IsInfo bytes found (declaration_of m found)
@@ -268,24 +267,21 @@ spelled bytes found pool at next end m f p c one a e base = record {
   }
 
 -- what is read is spelled so
-pub info_stands : (bytes : List ℕ) (found : List (List ℕ)) (d : Declaration) → IsBytes bytes → PoolStands bytes → info_of bytes found ≡ Ok d → IsInfo bytes found d
+pub info_stands : (bytes : List ℕ) (found : List (List ℕ)) (d : Declaration) → IsBytes bytes → info_of bytes found ≡ Ok d → IsInfo bytes found d
 unfolding info_of
-info_stands bytes found d b pool_stands e =
+info_stands bytes found d b e =
     let s1 = bind_ok (front_at bytes) _ d e in
     let s2 = bind_ok (pool_or (pool_at bytes s1.0)) _ d s1.2 in
     let s3 = bind_ok (empty_class_at s2.0.0 bytes s2.0.1) _ d s2.2 in
     let s4 = bind_ok (attributes_at s2.0.0 bytes s3.0) _ d s3.2 in
     let f = front_stands bytes s1.0 b s1.1 in
-    let p = pool_stands s1.0 s2.0 f.stands.within (pool_ok (pool_at bytes s1.0) s2.0 s2.1) in
+    let p = pool_stands bytes s1.0 s2.0.0 s2.0.1 b (pool_ok (pool_at bytes s1.0) s2.0 s2.1) in
     let c = empty_class_stands s2.0.0 bytes s2.0.1 s3.0 b s3.1 in
     let w = whole_ok found bytes s4.0 d s4.2 in
     let a = attributes_stand s2.0.0 bytes s3.0 w.m w.ms s4.0 b w.modules s4.1 in
     let at : s1.0 ≡ 8 = f.stands.ends in
     let all = spelled bytes found s2.0.0 s2.0.1 s3.0 s4.0.1 w.m (subst (Front bytes) at f) (subst (λ k. StandsPool bytes k s2.0.0 s2.0.1) at p) c a.one a.attribute w.end w.base in
     subst (IsInfo bytes found) w.is all
-
-abbrev pub PoolReads : List ℕ → Type 0
-PoolReads bytes = (at : ℕ) (pool : List Entry) (next : ℕ) → StandsPool bytes at pool next → pool_at bytes at ≡ Ok (pool, next)
 
 abbrev module_in : Declaration → Module
 module_in d = record { name = d.name; is_open = d.is_open; version = d.version; required = d.required }
@@ -336,9 +332,9 @@ attribute_in bytes found d i next s =
     }
 
 -- what is spelled so is read
-pub info_reads : (bytes : List ℕ) (found : List (List ℕ)) (d : Declaration) → PoolReads bytes → IsInfo bytes found d → info_of bytes found ≡ Ok d
+pub info_reads : (bytes : List ℕ) (found : List (List ℕ)) (d : Declaration) → IsInfo bytes found d → info_of bytes found ≡ Ok d
 unfolding info_of
-info_reads bytes found d pool_reads i =
+info_reads bytes found d i =
     let empty = two 0x8000 ++ (two i.this ++ (two 0 ++ (two 0 ++ (two 0 ++ two 0)))) in
     let attribute = two i.attribute ++ (four (length (body_bytes i.body)) ++ body_bytes i.body) in
     let s1 = first empty (two 1 ++ attribute) i.back in
@@ -347,7 +343,18 @@ info_reads bytes found d pool_reads i =
     let s3 = second (two 1) attribute r1 in
     let next = i.pool_end + 12 in
     let f = front_reads bytes 8 (record { minor = i.minor; major = i.major; small = i.numbers.0; stands = i.front; version = i.version }) in
-    let p : pool_or (pool_at bytes 8) ≡ Ok (i.pool, i.pool_end) = rw (pool_reads 8 i.pool i.pool_end i.pool_stands) refl in
+    let p : pool_or (pool_at bytes 8) ≡ Ok (i.pool, i.pool_end) = rw (pool_again bytes 8 i.pool i.pool_end i.pool_stands) refl in
     let c = empty_class_reads i.pool bytes i.pool_end next (record { this = i.this; small = i.numbers.1; stands = s1; named = i.this_named }) in
     let a = attributes_read i.pool bytes next (length bytes) (module_in d) s2 (attribute_in bytes found d i (next + 2) s3) in
     bind_to _ f (bind_to _ p (bind_to _ c (bind_to _ a (whole_to found bytes d i.base i.others))))
+
+-- ---- what a call answers
+
+pub found_in : (bytes : List ℕ) (found : List (List ℕ)) (r : Result Declaration InfoFault) → IsBytes bytes → Gives told (λ (d : Declaration). d) r (info_of bytes found)
+    → IfOk r (λ d. IsInfo bytes found d)
+found_in bytes found (Ok d) b g = info_stands bytes found d b g
+found_in bytes found (Err e) b g = tt
+
+pub only_in : (bytes : List ℕ) (found : List (List ℕ)) (r : Result Declaration InfoFault) → Gives told (λ (d : Declaration). d) r (info_of bytes found)
+    → (d : Declaration) → IsInfo bytes found d → Gives told (λ (d : Declaration). d) r (Ok d)
+only_in bytes found r g d i = subst (λ (x : Result Declaration InfoFault). Gives told (λ (d : Declaration). d) r x) (info_reads bytes found d i) g

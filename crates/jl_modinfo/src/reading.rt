@@ -4,6 +4,8 @@ ghost use Rattle.std.specs.Prelude.{◌≡◌, ◌≤◌, List, ℕ, length, IfO
 ghost use Rattle.std.specs.Option.{option_to_list};
 ghost use Rattle.jl_logic.specs.Answers.{Gives};
 ghost use Rattle.jl_pool.specs.Reading.{pool_at};
+ghost use Rattle.jl_prim.specs.declared.declaration.Declaration.{Declaration};
+ghost use Rattle.jl_modinfo.specs.Info.{IsInfo};
 ghost use Rattle.jl_modinfo.specs.Faults.{told, pool_or};
 ghost use Rattle.jl_modinfo.specs.Reading.{info_of, declaration_of, whole as whole_file};
 
@@ -18,13 +20,23 @@ use std::alloc::Global;
 
 /// The declaration that a `module-info.class` file has (JVMS 4.1, 4.7.25). `found` is the packages to take
 /// where the file does not list them.
-#[tactic(auto, unfolding(crate::specs::Reading::info_of))]
+///
+/// The first fault from the left is the answer. After the attributes come the rules on the whole file.
 pub fn read_info(
     alloc: Global,
     bytes: &[u8],
     found: &[Name],
 ) -> Result<Declaration, InfoFault>
     ensures exact { Gives told (λ d. d) result (info_of bytes.now found.now) }
+    ensures found { IfOk result (λ d. IsInfo bytes.now found.now d) }
+    ensures only { (d : Declaration) → IsInfo bytes.now found.now d → Gives told (λ d. d) result (Ok d) }
+{
+    info(alloc, bytes, found)
+}
+
+#[tactic(auto, unfolding(crate::specs::Reading::info_of))]
+fn info(alloc: Global, bytes: &[u8], found: &[Name]) -> Result<Declaration, InfoFault>
+    ensures { Gives told (λ d. d) result (info_of bytes.now found.now) }
 {
     let at = front(bytes)?;
     let (pool, at) = pool(alloc, bytes, at)?;
