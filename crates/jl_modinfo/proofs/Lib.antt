@@ -1,3 +1,4 @@
+mod Rows
 pub mod Standing
 pub mod FrontLaws
 pub mod NameLaws

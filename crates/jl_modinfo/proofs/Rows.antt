@@ -32,11 +32,11 @@ unfolding zero_at
 one_interface = refl
 
 named : module_name_at pool (0 ∷ 2 ∷ []) 0 ≡ Ok (codes "a", 2)
-unfolding module_name_at plain has_no_lone_surrogate
+unfolding module_name_at plain has_no_lone_surrogate lib.Utf8.encode
 named = refl
 
 with_a_blank : module_name_at pool (0 ∷ 5 ∷ []) 0 ≡ Err (faults.BadIndex 0)
-unfolding module_name_at plain has_no_lone_surrogate
+unfolding module_name_at plain has_no_lone_surrogate lib.Utf8.encode
 with_a_blank = refl
 
 not_a_module : module_name_at pool (7 ∷ 0 ∷ 3 ∷ []) 1 ≡ Err (faults.BadIndex 1)
@@ -48,15 +48,15 @@ unfolding version_at
 without_version = refl
 
 with_version : version_at pool (0 ∷ 1 ∷ []) 0 ≡ Ok (Some (codes "a"), 2)
-unfolding version_at plain
+unfolding version_at plain lib.Utf8.encode
 with_version = refl
 
 table : each_at (requires_at pool (0 ∷ 2 ∷ 0 ∷ 0x40 ∷ 0 ∷ 0 ∷ [])) [] 1 0 ≡ Ok (record { name = codes "a"; transitive = false; is_static = true } ∷ [], 6)
-unfolding each_at requires_at module_name_at version_at plain has_no_lone_surrogate
+unfolding each_at requires_at module_name_at version_at plain has_no_lone_surrogate lib.Utf8.encode
 table = refl
 
 repeated : each_at (requires_at pool (0 ∷ 2 ∷ 0 ∷ 0 ∷ 0 ∷ 0 ∷ 0 ∷ 2 ∷ [])) [] 2 0 ≡ Err (faults.Repeated (codes "requires") (codes "a"))
-unfolding each_at requires_at module_name_at version_at plain has_no_lone_surrogate
+unfolding each_at requires_at module_name_at version_at plain has_no_lone_surrogate lib.Utf8.encode
 repeated = refl
 
 unbuilt : unbuilt_at (0 ∷ 1 ∷ []) 0 ≡ Err (faults.NotBuilt 0)
