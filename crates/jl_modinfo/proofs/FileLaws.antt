@@ -62,27 +62,27 @@ record Attribute (pool : List Entry) (bytes : List ℕ) (at next : ℕ) (m : Mod
 
 content_uncut : (pool : List Entry) (bytes : List ℕ) (at end : ℕ) (m : Module) → end ≤ length bytes → Content pool (take end bytes) at (length (take end bytes)) m → Content pool bytes at end m
 content_uncut pool bytes at end m le c = record {
-    body = c.body;
-    numbers = c.numbers;
-    stands = ends_at end (length-take-le end bytes le) (uncut end le c.stands);
-    name = c.name;
-    is_open = c.is_open;
-    version = c.version;
-    required = c.required;
-    distinct = c.distinct;
-  }
+  body = c.body;
+  numbers = c.numbers;
+  stands = ends_at end (length-take-le end bytes le) (uncut end le c.stands);
+  name = c.name;
+  is_open = c.is_open;
+  version = c.version;
+  required = c.required;
+  distinct = c.distinct;
+}
 
 content_cut : (pool : List Entry) (bytes : List ℕ) (at end : ℕ) (m : Module) → end ≤ length bytes → Content pool bytes at end m → Content pool (take end bytes) at (length (take end bytes)) m
 content_cut pool bytes at end m le c = record {
-    body = c.body;
-    numbers = c.numbers;
-    stands = ends_at (length (take end bytes)) (sym (length-take-le end bytes le)) (cut end le (omega arith) c.stands);
-    name = c.name;
-    is_open = c.is_open;
-    version = c.version;
-    required = c.required;
-    distinct = c.distinct;
-  }
+  body = c.body;
+  numbers = c.numbers;
+  stands = ends_at (length (take end bytes)) (sym (length-take-le end bytes le)) (cut end le (omega arith) c.stands);
+  name = c.name;
+  is_open = c.is_open;
+  version = c.version;
+  required = c.required;
+  distinct = c.distinct;
+}
 
 -- a Module attribute behind its name
 record Behind (pool : List Entry) (bytes : List ℕ) (at : ℕ) (x : Module × ℕ) : Type 0 where
@@ -164,7 +164,7 @@ attribute_reads pool bytes at next m a =
     let s2 = first len (body_bytes a.content.body) r1 in
     let same : at + 2 + 4 ≡ a.start = omega (arith, a.content.stands.ends, r1.ends) in
     bind_to _ (number_read short 2 bytes at a.index (at + 2) a.small s1)
-      (rw a.named (behind_reads pool bytes (at + 2) next a.start m a.content a.fits (ends_at a.start same s2)))
+    (rw a.named (behind_reads pool bytes (at + 2) next a.start m a.content a.fits (ends_at a.start same s2)))
 
 record Attributes (pool : List Entry) (bytes : List ℕ) (at : ℕ) (m : Module) (x : List Module × ℕ) : Type 0 where
   attribute : Attribute pool bytes (at + 2) x.1 m
@@ -242,29 +242,29 @@ pool_ok (Err f) x e = absurd cc
 spelled : (bytes : List ℕ) (found : List (List ℕ)) (pool : List Entry) (at next end : ℕ) (m : Module) → Front bytes 8 → StandsPool bytes 8 pool at → EmptyClass pool bytes at next
     → Stands bytes next (two 1) (next + 2) → Attribute pool bytes (next + 2) end m → end ≡ length bytes → IsTrue (keeps_base_rule m.name m.required) → IsInfo bytes found (declaration_of m found)
 spelled bytes found pool at next end m f p c one a e base = record {
-    minor = f.minor;
-    major = f.major;
-    pool = pool;
-    pool_end = at;
-    this = c.this;
-    attribute = a.index;
-    body = a.content.body;
-    numbers = (f.small, c.small, a.small, a.content.numbers.0, a.content.numbers.1, a.content.numbers.2, a.content.numbers.3);
-    content_fits = a.fits;
-    front = f.stands;
-    version = f.version;
-    pool_stands = p;
-    back = ends_at (length bytes) e (join c.stands (join one a.stands));
-    this_named = c.named;
-    attribute_named = a.named;
-    name = a.content.name;
-    is_open = a.content.is_open;
-    version_declared = a.content.version;
-    required = a.content.required;
-    distinct = a.content.distinct;
-    base = base;
-    others = (refl, refl, refl, refl, refl, refl);
-  }
+  minor = f.minor;
+  major = f.major;
+  pool = pool;
+  pool_end = at;
+  this = c.this;
+  attribute = a.index;
+  body = a.content.body;
+  numbers = (f.small, c.small, a.small, a.content.numbers.0, a.content.numbers.1, a.content.numbers.2, a.content.numbers.3);
+  content_fits = a.fits;
+  front = f.stands;
+  version = f.version;
+  pool_stands = p;
+  back = ends_at (length bytes) e (join c.stands (join one a.stands));
+  this_named = c.named;
+  attribute_named = a.named;
+  name = a.content.name;
+  is_open = a.content.is_open;
+  version_declared = a.content.version;
+  required = a.content.required;
+  distinct = a.content.distinct;
+  base = base;
+  others = (refl, refl, refl, refl, refl, refl);
+}
 
 -- what is read is spelled so
 pub info_stands : (bytes : List ℕ) (found : List (List ℕ)) (d : Declaration) → IsBytes bytes → info_of bytes found ≡ Ok d → IsInfo bytes found d
@@ -289,17 +289,17 @@ module_in d = record { name = d.name; is_open = d.is_open; version = d.version; 
 same_declaration : (d : Declaration) (found : List (List ℕ)) → (d.exports ≡ []) × (d.opens ≡ []) × (d.uses ≡ []) × (d.provides ≡ []) × (d.packages ≡ found) × (d.main ≡ None)
     → declaration_of (module_in d) found ≡ d
 same_declaration d found e = λ i. record {
-    name = d.name;
-    is_open = d.is_open;
-    version = d.version;
-    required = d.required;
-    exports = sym e.0 i;
-    opens = sym e.1 i;
-    uses = sym e.2 i;
-    provides = sym e.3 i;
-    packages = sym e.4 i;
-    main = sym e.5 i;
-  }
+  name = d.name;
+  is_open = d.is_open;
+  version = d.version;
+  required = d.required;
+  exports = sym e.0 i;
+  opens = sym e.1 i;
+  uses = sym e.2 i;
+  provides = sym e.3 i;
+  packages = sym e.4 i;
+  main = sym e.5 i;
+}
 
 whole_to : (found : List (List ℕ)) (bytes : List ℕ) (d : Declaration) → IsTrue (keeps_base_rule d.name d.required)
     → (d.exports ≡ []) × (d.opens ≡ []) × (d.uses ≡ []) × (d.provides ≡ []) × (d.packages ≡ found) × (d.main ≡ None)

@@ -57,7 +57,7 @@ pub required_not : (name : List ℕ) (done : List Requires) → (Contains (names
 required_not name [] n = refl
 required_not name (r ∷ rs) n =
     apart_by (is_text r.name name) (is_required name rs) (λ e. n (contains_first name r.name (names rs) ((bytes_decides r.name name).0 e)))
-      (required_not name rs (λ c. n (Contains-append_right (r.name ∷ []) (names rs) name c)))
+    (required_not name rs (λ c. n (Contains-append_right (r.name ∷ []) (names rs) name c)))
 
 text_symm : (a b : List ℕ) → is_text a b ≡ is_text b a
 text_symm a b = nat_list_eq_equiv.symm a b

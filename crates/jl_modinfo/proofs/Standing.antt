@@ -64,10 +64,10 @@ cut_there n at end bytes l =
 -- what stands before the end stands also where the rest is cut off
 pub cut : {bytes : List ℕ} {at next : ℕ} {t : List ℕ} (end : ℕ) → end ≤ length bytes → next ≤ end → Stands bytes at t next → Stands (take end bytes) at t next
 cut {bytes} {at} {next} {t} end le l s = record {
-    there = cut_there (length t) at end bytes (omega (arith, s.ends)) ∙ s.there;
-    ends = s.ends;
-    within = rw (length-take-le end bytes le) l;
-  }
+  there = cut_there (length t) at end bytes (omega (arith, s.ends)) ∙ s.there;
+  ends = s.ends;
+  within = rw (length-take-le end bytes le) l;
+}
 
 -- and the other way round
 pub uncut : {bytes : List ℕ} {at next : ℕ} {t : List ℕ} (end : ℕ) → end ≤ length bytes → Stands (take end bytes) at t next → Stands bytes at t next
@@ -152,7 +152,7 @@ number_read short k bytes at n next small s =
     let fits : ltb (length bytes) (at + k) ≡ false = le-ltb (length bytes) (at + k) (omega (arith, s.within, e)) in
     let there : take k (drop at bytes) ≡ big_bytes k n = subst (λ m. take m (drop at bytes) ≡ big_bytes k n) l s.there in
     let read : big_number k (drop at bytes) ≡ n =
-      sym (big_from-take 0 k k (drop at bytes) (omega arith)) ∙ ap (big_from 0 k) there ∙ ap (big_from 0 k) (sym (append-nil (big_bytes k n))) ∙ big_number-reads_back k n [] small in
+    sym (big_from-take 0 k k (drop at bytes) (omega arith)) ∙ ap (big_from 0 k) there ∙ ap (big_from 0 k) (sym (append-nil (big_bytes k n))) ∙ big_number-reads_back k n [] small in
     rw (fits, read, e) refl
 
 -- the number is a known one

@@ -33,7 +33,7 @@ body_bytes b = two b.index ++ (two b.flags ++ (two b.version ++ (two (length b.r
 -- from the flags of the file to its end: an empty class with one attribute
 abbrev pub back_bytes : ℕ → ℕ → Body → List ℕ
 back_bytes this attribute b =
-  two 0x8000 ++ (two this ++ (two 0 ++ (two 0 ++ (two 0 ++ (two 0 ++ (two 1 ++ (two attribute ++ (four (length (body_bytes b)) ++ body_bytes b))))))))
+    two 0x8000 ++ (two this ++ (two 0 ++ (two 0 ++ (two 0 ++ (two 0 ++ (two 1 ++ (two attribute ++ (four (length (body_bytes b)) ++ body_bytes b))))))))
 
 -- the row declares this entry
 pub record Declares (pool : List Entry) (r : Row) (e : Requires) : Type 0 where

@@ -112,10 +112,10 @@ begins (m ∷ ms) = false
 -- A Module attribute behind its name. A second one is repeated.
 unfoldable pub module_attribute_at : List Entry → List ℕ → List Module → ℕ → Result (Module × ℕ) InfoFault
 module_attribute_at pool bytes done at =
-  if not (begins done) then Err (faults.Repeated (codes "attributes") (codes "Module")) else (do
-    content ← content_end bytes at
-    m ← module_at pool (take content.1 bytes) content.0
-    Ok (m, content.1))
+    if not (begins done) then Err (faults.Repeated (codes "attributes") (codes "Module")) else (do
+      content ← content_end bytes at
+      m ← module_at pool (take content.1 bytes) content.0
+      Ok (m, content.1))
 
 -- An attribute. None but Module is read yet.
 unfoldable pub attribute_at : List Entry → List ℕ → List Module → ℕ → Result (Module × ℕ) InfoFault
@@ -134,17 +134,25 @@ attributes_at pool bytes at = do
 
 abbrev pub declaration_of : Module → List (List ℕ) → Declaration
 declaration_of m found = record {
-  name = m.name; is_open = m.is_open; version = m.version; required = m.required;
-  exports = []; opens = []; uses = []; provides = []; packages = found; main = None
+  name = m.name;
+  is_open = m.is_open;
+  version = m.version;
+  required = m.required;
+  exports = [];
+  opens = [];
+  uses = [];
+  provides = [];
+  packages = found;
+  main = None;
 }
 
 -- the rules on the whole file, in order
 abbrev pub whole : List (List ℕ) → List ℕ → List Module × ℕ → Result Declaration InfoFault
 whole found bytes ([], at) = Err faults.NoModuleAttribute
 whole found bytes (m ∷ ms, at) =
-  if not (at == length bytes) then Err faults.Trailing
-  else if keeps_base_rule m.name m.required then Ok (declaration_of m found)
-  else Err faults.BaseRule
+    if not (at == length bytes) then Err faults.Trailing
+    else if keeps_base_rule m.name m.required then Ok (declaration_of m found)
+    else Err faults.BaseRule
 
 -- the declaration in a file, or its first fault
 unfoldable pub info_of : List ℕ → List (List ℕ) → Result Declaration InfoFault

@@ -13,6 +13,7 @@ use jl_reading::{u16_at, u32_at};
 use std::alloc::Global;
 
 const MAGIC: u32 = 0xcafe_babe;
+
 const MODULE_FLAGS: u16 = 0x8000;
 
 /// The place after magic and version.
@@ -36,12 +37,7 @@ pub fn front(bytes: &[u8]) -> Result<usize, InfoFault>
 
 /// The place after flags, class, super class and the counts of interfaces, fields and methods.
 #[tactic(auto, unfolding(crate::specs::Reading::empty_class_at))]
-pub fn empty_class(
-    alloc: Global,
-    pool: &Pool,
-    bytes: &[u8],
-    at: usize,
-) -> Result<usize, InfoFault>
+pub fn empty_class(alloc: Global, pool: &Pool, bytes: &[u8], at: usize) -> Result<usize, InfoFault>
     requires { at ≤ length bytes.now }
     ensures exact { Gives told (λ at. at) result (empty_class_at pool.now bytes.now at) }
     ensures within { IfOk result (λ at. at ≤ length bytes.now) }

@@ -27,12 +27,7 @@ pub struct Module {
 
 /// The module that the bytes from a place on declare, all of them.
 #[tactic(auto, unfolding(crate::specs::Reading::module_at))]
-pub fn module_of(
-    alloc: Global,
-    pool: &Pool,
-    bytes: &[u8],
-    at: usize,
-) -> Result<Module, InfoFault>
+pub fn module_of(alloc: Global, pool: &Pool, bytes: &[u8], at: usize) -> Result<Module, InfoFault>
     requires { at ≤ length bytes.now }
     ensures { Gives told (λ m. m) result (module_at pool.now bytes.now at) }
 {

@@ -22,11 +22,7 @@ use std::alloc::Global;
 /// where the file does not list them.
 ///
 /// The first fault from the left is the answer. After the attributes come the rules on the whole file.
-pub fn read_info(
-    alloc: Global,
-    bytes: &[u8],
-    found: &[Name],
-) -> Result<Declaration, InfoFault>
+pub fn read_info(alloc: Global, bytes: &[u8], found: &[Name]) -> Result<Declaration, InfoFault>
     ensures exact { Gives told (λ d. d) result (info_of bytes.now found.now) }
     ensures found { IfOk result (λ d. IsInfo bytes.now found.now d) }
     ensures only { (d : Declaration) → IsInfo bytes.now found.now d → Gives told (λ d. d) result (Ok d) }

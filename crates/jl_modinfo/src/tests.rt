@@ -70,7 +70,16 @@ fn parts_of_declarations(rt: HostRuntime) -> Result<(), Fail> {
     let alloc = rt.alloc();
     let rows: [(usize, usize, &[u8], &str, &str, bool, bool, bool); 6] = [
         (7, 1, b"\x36", "a", "", false, false, false),
-        (37, 3, b"\x00\x02\xc3\xbc", "\u{fc}", "", false, false, false),
+        (
+            37,
+            3,
+            b"\x00\x02\xc3\xbc",
+            "\u{fc}",
+            "",
+            false,
+            false,
+            false,
+        ),
         (80, 2, b"\x00\x20", "a", "", true, false, false),
         (82, 2, b"\x00\x04", "a", "a", false, false, false),
         (88, 2, b"\x00\x20", "a", "", false, true, false),
@@ -156,11 +165,36 @@ fn faults_of_one_edit(rt: HostRuntime) -> Result<(), Fail> {
 #[test]
 fn faults_of_two_edits(rt: HostRuntime) -> Result<(), Fail> {
     let alloc = rt.alloc();
-    let second = b"\x00\x03\x00\x00\x00\x16\x00\x05\x00\x00\x00\x00\x00\x01\x00\x07\x80\x00\x00\x00\x00\x00\x00\x00\x00\x00\x00\x00";
+    let second =
+        b"\x00\x03\x00\x00\x00\x16\x00\x05\x00\x00\x00\x00\x00\x01\x00\x07\x80\x00\x00\x00\x00\x00\x00\x00\x00\x00\x00\x00";
     let rows: [(usize, usize, &[u8], usize, usize, &[u8], &str); 5] = [
-        (100, 0, second, 71, 1, b"\x02", "Repeated(attributes, Module)"),
-        (84, 8, b"\x00\x02\x00\x07\x80\x00\x00\x00\x00\x07\x80\x00\x00\x00", 77, 1, b"\x1c", "Repeated(requires, java.base)"),
-        (84, 8, b"\x00\x02\x00\x07\x80\x00\x00\x00\x00\x05\x00\x00\x00\x00", 77, 1, b"\x1c", "read"),
+        (
+            100,
+            0,
+            second,
+            71,
+            1,
+            b"\x02",
+            "Repeated(attributes, Module)",
+        ),
+        (
+            84,
+            8,
+            b"\x00\x02\x00\x07\x80\x00\x00\x00\x00\x07\x80\x00\x00\x00",
+            77,
+            1,
+            b"\x1c",
+            "Repeated(requires, java.base)",
+        ),
+        (
+            84,
+            8,
+            b"\x00\x02\x00\x07\x80\x00\x00\x00\x00\x05\x00\x00\x00\x00",
+            77,
+            1,
+            b"\x1c",
+            "read",
+        ),
         (84, 8, b"\x00\x00", 77, 1, b"\x10", "BaseRule"),
         (100, 0, b"\x00", 77, 1, b"\x17", "Trailing"),
     ];

@@ -13,9 +13,9 @@ returns-in_err-module c =
 
 pub loop-preserved : goal.loop-preserved
 loop-preserved c = record {
-    within = c.in_ok-module.ensures.within;
-    reads = rw c.in_ok-module.ensures.first at (each_more (attribute_at c.args.pool.now c.args.bytes.now) (option_to_list c.loop.declared) c.args.count c.loop.counter c.loop.next c.in_ok-module.module c.in_ok-module.after _ c.loop-test.true c.in_ok-module.ensures.exact c.loop.invariant.reads);
-  }
+  within = c.in_ok-module.ensures.within;
+  reads = rw c.in_ok-module.ensures.first at (each_more (attribute_at c.args.pool.now c.args.bytes.now) (option_to_list c.loop.declared) c.args.count c.loop.counter c.loop.next c.in_ok-module.module c.in_ok-module.after _ c.loop-test.true c.in_ok-module.ensures.exact c.loop.invariant.reads);
+}
 
 pub returns : goal.returns
 returns c = each_done (attribute_at c.args.pool.now c.args.bytes.now) (option_to_list c.loop.declared) c.args.count c.loop.counter c.loop.next _ c.loop-test.false c.loop.invariant.reads

@@ -12,9 +12,9 @@ returns-in_err-entry-clause-exact c =
 
 pub loop-preserved : goal.loop-preserved
 loop-preserved c = record {
-    within = c.in_ok-entry.ensures.within;
-    reads = rw c.in_ok-table.ensures (each_more (requires_at c.args.pool.now c.args.bytes.now) c.loop.table c.args.count c.loop.counter c.loop.next c.in_ok-entry.entry c.in_ok-entry.after _ c.loop-test.true c.in_ok-entry.ensures.exact c.loop.invariant.reads);
-  }
+  within = c.in_ok-entry.ensures.within;
+  reads = rw c.in_ok-table.ensures (each_more (requires_at c.args.pool.now c.args.bytes.now) c.loop.table c.args.count c.loop.counter c.loop.next c.in_ok-entry.entry c.in_ok-entry.after _ c.loop-test.true c.in_ok-entry.ensures.exact c.loop.invariant.reads);
+}
 
 pub returns-clause-exact : goal.returns-clause-exact
 returns-clause-exact c = rw c.into_entries.ensures (each_done (requires_at c.args.pool.now c.args.bytes.now) c.loop.table c.args.count c.loop.counter c.loop.next _ c.loop-test.false c.loop.invariant.reads)
