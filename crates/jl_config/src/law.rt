@@ -6,5 +6,4 @@ ghost use Rattle.jl_config.specs.Unique.{ResolvesOnce};
 /// run.
 pub fn resolves_once()
     ensures { ResolvesOnce }
-{
-}
+{}
