@@ -136,13 +136,13 @@ members_right os roots next starts marks ms ne se up only all e =
     record {
       rises = subst (RisesBy module_cmp) (sym e) (kept_rises os marks up);
       only = λ o c.
-        let k = kept_shows os marks o (subst (λ l. Contains l o) e c) in
-        let r = reached k.0 k.2 in
-        let s = chain_shows os roots r.0 k.0 r.1 in
-        (r.0, subst (λ v. Enumerated os [] roots r.0 v) (same_some s.0 o (slice_get os k.0) s.1 k.1) s.2);
+          let k = kept_shows os marks o (subst (λ l. Contains l o) e c) in
+          let r = reached k.0 k.2 in
+          let s = chain_shows os roots r.0 k.0 r.1 in
+          (r.0, subst (λ v. Enumerated os [] roots r.0 v) (same_some s.0 o (slice_get os k.0) s.1 k.1) s.2);
       all = λ o m.
-        let s = chain_has os roots m.0 o m.1 in
-        subst (λ l. Contains l o) (sym e) (kept_has os marks s.0 o s.1 (marked s.0 (m.0, s.2)));
+          let s = chain_has os roots m.0 o m.1 in
+          subst (λ l. Contains l o) (sym e) (kept_has os marks s.0 o s.1 (marked s.0 (m.0, s.2)));
     }
 
 -- ---- what a module reads
@@ -158,9 +158,9 @@ module _ (ms : List Observed) (a : Observed) (at : ℕ) (here : slice_get ms at 
   reads_show zero p h =
       ⊎_elim
       (λ c.
-        let w = from_filter_map (entry_place Every ms) a.declaration.required p c in
-        let s = place_shows w.0.name ms p (entry_shows Every ms w.0 p w.2).1 in
-        (s.0, s.1, inr (0, (w.0, w.1, s.2))))
+      let w = from_filter_map (entry_place Every ms) a.declaration.required p c in
+      let s = place_shows w.0.name ms p (entry_shows Every ms w.0 p w.2).1 in
+      (s.0, s.1, inr (0, (w.0, w.1, s.2))))
       (λ c. let e : at ≡ p = ⊎_elim (λ e. e) (λ k. contains_nothing p k) (contains_cases at p [] c) in (a, subst (λ q. slice_get ms q ≡ Some a) e here, inl refl))
       (contains_either (entry_places Every ms a.declaration.required) (at ∷ []) p h)
   reads_show (suc n) p h =
@@ -196,8 +196,8 @@ module _ (ms : List Observed) (a : Observed) (at : ℕ) (here : slice_get ms at 
       record {
         one_each = long ∙ ap length ne ∙ rows_long PassedOn ms;
         only = λ p b atb m.
-          let r = reached p m in
-          let s = reads_show r.0 p r.1 in
-          subst (ReadIn ms a) (same_some s.0 b (slice_get ms p) s.1 atb) s.2;
+            let r = reached p m in
+            let s = reads_show r.0 p r.1 in
+            subst (ReadIn ms a) (same_some s.0 b (slice_get ms p) s.1 atb) s.2;
         all = λ b h. let s = reads_have b h in (s.0, s.1, marked s.0 s.2);
       }

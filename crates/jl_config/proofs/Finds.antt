@@ -191,7 +191,7 @@ is_searched name os (Ok p) up range h = place_at os p name up range h
 is_searched name os (Err p) up range h =
     let split = h (searchable_from_sorted names_total name_of os name (sorted_from_rising os up)) in
     let each : (k : ℕ) (d : Observed) → k < length os → pointwise nat_eq (name_of (get_or os k d)) name ≡ false =
-        λ k d lt. ⊎_elim (λ l. less_differs (name_of (get_or os k d)) name (split.0 k d (omega arith) l)) (λ g. greater_differs (name_of (get_or os k d)) name (split.1 k d g lt)) (cases_lt k p) in
+    λ k d lt. ⊎_elim (λ l. less_differs (name_of (get_or os k d)) name (split.0 k d (omega arith) l)) (λ g. greater_differs (name_of (get_or os k d)) name (split.1 k d g lt)) (cases_lt k p) in
     (no_place os name (recursion_from_All (λ o. pointwise nat_eq (name_of o) name ≡ false) os each), range, split)
 
 -- ---- an insert

@@ -40,10 +40,10 @@ first_decides a b o e = ap (λ p. ordering_then p o) e
 
 pub reads_none : (id : ConfigId) (ms : List Observed) (rs : List Read) → rs ≡ [] → AreReads id ms [] rs
 reads_none id ms rs e = subst (AreReads id ms []) (sym e) (record {
-    rises = tt;
-    only = λ r c. contains_nothing r c;
-    all = λ a b c d h. contains_nothing a c;
-  })
+  rises = tt;
+  only = λ r c. contains_nothing r c;
+  all = λ a b c d h. contains_nothing a c;
+})
 
 pub reads_more : (id : ConfigId) (ms : List Observed) (i : ℕ) (a : Observed) (marks : List Bool) (old new : List Read)
     → RisesBy module_cmp ms → slice_get ms i ≡ Some a → take (i + 1) ms ≡ take i ms ++ a ∷ [] → AreReadBy ms a marks → AreReads id ms (take i ms) old
@@ -52,7 +52,7 @@ reads_more id ms i a marks old new up at grows by was e =
     let block : List Read = map (read_of id a) (kept ms marks) in
     subst (λ l. AreReads id ms l new) (sym grows) (subst (AreReads id ms (take i ms ++ a ∷ [])) (sym e) (record {
       rises = rises_append read_cmp old block was.rises (reads_rise id a (kept ms marks) (kept_rises ms marks up))
-        (each_from_members (λ r. AllByRecursion (λ s. read_cmp r s ≡ Less) block) old (λ r c. each_from_members (λ s. read_cmp r s ≡ Less) block (λ s d. less r s (was.only r c) (from_map (read_of id a) (kept ms marks) s d))));
+          (each_from_members (λ r. AllByRecursion (λ s. read_cmp r s ≡ Less) block) old (λ r c. each_from_members (λ s. read_cmp r s ≡ Less) block (λ s d. less r s (was.only r c) (from_map (read_of id a) (kept ms marks) s d))));
       only = λ r c. ⊎_elim (λ k. earlier r (was.only r k)) (λ k. later r (from_map (read_of id a) (kept ms marks) r k)) (contains_either old block r c);
       all = λ b d cb cd h. ⊎_elim (λ k. contains_left old block (read_of id b d) (was.all b d k cd h)) (λ k. contains_right old block (read_of id b d) (own b d h k)) (contains_either (take i ms) (a ∷ []) b cb);
     }))

@@ -34,7 +34,7 @@ pub least_more : (os ms : List Observed) (roots : List (List ℕ)) (i : ℕ) (o 
 least_more os ms roots i o old new lt is e f =
     let more : take (i + 1) ms ≡ take i ms ++ o ∷ [] = take_more ms i o lt ∙ ap (λ w. take i ms ++ w ∷ []) (sym is) in
     let flat : flat_map (missing_of os) (take (i + 1) ms) ≡ flat_map (missing_of os) (take i ms) ++ missing_of os o =
-        ap (flat_map (missing_of os)) more ∙ flat_map-append (missing_of os) (take i ms) (o ∷ []) ∙ ap (λ l. flat_map (missing_of os) (take i ms) ++ l) (append-nil (missing_of os o)) in
+    ap (flat_map (missing_of os)) more ∙ flat_map-append (missing_of os) (take i ms) (o ∷ []) ∙ ap (λ l. flat_map (missing_of os) (take i ms) ++ l) (append-nil (missing_of os o)) in
     f ∙ ap (λ l. least_from l (missing_of os o)) e ∙ sym (least_append None (missing_roots os roots ++ flat_map (missing_of os) (take i ms)) (missing_of os o))
     ∙ ap (least_from None) (append_assoc (missing_roots os roots) (flat_map (missing_of os) (take i ms)) (missing_of os o) ∙ ap (λ l. missing_roots os roots ++ l) (sym flat))
 
@@ -76,21 +76,21 @@ least_some a (x ∷ xs) m e = by (is_lt (missing_cmp x a)) refl (λ f. least_som
         record {
           has = contains_tail a m (x ∷ xs) w.has;
           least = λ y c l. ⊎_elim
-            (λ e. w.least x (contains_head x xs) (missing_total.trans x a m less (subst (λ v. missing_cmp v m ≡ Less) (sym e) l)))
-            (λ k. w.least y k l)
-            (contains_cases a y (x ∷ xs) c);
+              (λ e. w.least x (contains_head x xs) (missing_total.trans x a m less (subst (λ v. missing_cmp v m ≡ Less) (sym e) l)))
+              (λ k. w.least y k l)
+              (contains_cases a y (x ∷ xs) c);
         }
     by false t h k f =
         let w = k f in
         record {
           has = ⊎_elim (λ e. subst (Contains (a ∷ x ∷ xs)) e (contains_head a (x ∷ xs))) (λ c. contains_tail a m (x ∷ xs) (contains_tail x m xs c)) (contains_cases a m xs w.has);
           least = λ y c l. ⊎_elim
-            (λ e. w.least y (subst (Contains (a ∷ xs)) e (contains_head a xs)) l)
-            (λ d. ⊎_elim
+              (λ e. w.least y (subst (Contains (a ∷ xs)) e (contains_head a xs)) l)
+              (λ d. ⊎_elim
               (λ e. w.least a (contains_head a xs) (less_through a x m (missing_cmp x a) refl (not_less (missing_cmp x a) t) (subst (λ v. missing_cmp v m ≡ Less) (sym e) l)))
               (λ z. w.least y (contains_tail a y xs z) l)
               (contains_cases x y xs d))
-            (contains_cases a y (x ∷ xs) c);
+              (contains_cases a y (x ∷ xs) c);
         }
 
 never_none : {A : Type 0} (a : List ℕ × Option (List ℕ)) (xs : List (List ℕ × Option (List ℕ))) → least_from (Some a) xs ≡ None → A

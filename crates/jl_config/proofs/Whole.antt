@@ -132,14 +132,14 @@ module _ (before after os : List Observed) (roots : List (List ℕ)) (ms : List 
   missing_from m c =
       ⊎_elim
       (λ k.
-        let w = from_filter_map (root_missing os) roots m k in
-        let s = root_missing_shows os w.0 m w.2 in
-        subst (IsMissing before after roots) s.1 (w.1, not_placed w.0 s.0))
+      let w = from_filter_map (root_missing os) roots m k in
+      let s = root_missing_shows os w.0 m w.2 in
+      subst (IsMissing before after roots) s.1 (w.1, not_placed w.0 s.0))
       (λ k.
-        let w = from_flat_map (missing_of os) ms m k in
-        let v = from_filter_map (entry_missing os (name_of w.0)) w.0.declaration.required m w.2 in
-        let s = entry_missing_shows os (name_of w.0) v.0 m v.2 in
-        subst (IsMissing before after roots) s.2 (w.0, within w.0 w.1, refl, (v.0, v.1, s.0, refl), not_placed v.0.name s.1))
+      let w = from_flat_map (missing_of os) ms m k in
+      let v = from_filter_map (entry_missing os (name_of w.0)) w.0.declaration.required m w.2 in
+      let s = entry_missing_shows os (name_of w.0) v.0 m v.2 in
+      subst (IsMissing before after roots) s.2 (w.0, within w.0 w.1, refl, (v.0, v.1, s.0, refl), not_placed v.0.name s.1))
       (contains_either (missing_roots os roots) (flat_map (missing_of os) ms) m c)
 
   missing_into : (m : List ℕ × Option (List ℕ)) → IsMissing before after roots m → Contains (all_missing os roots ms) m
@@ -168,10 +168,10 @@ pub resolved : (before after os : List Observed) (roots : List (List ℕ)) (ms :
     → (known : ℕ) (parents : List ConfigId) (g : Graph) (reads : List Read) → g.id ≡ record { 0 = known + 1 } → g.parents ≡ parents → g.modules ≡ ms → g.reads ≡ reads
     → None ≡ least_from None (all_missing os roots ms) → AreReads g.id ms ms reads → IsResolved known before parents after roots g
 resolved before after os roots ms universe members known parents g reads i p m r none h = record {
-    next = i;
-    given = p;
-    complete = none_missing before after os roots ms universe members none;
-    graph =
+  next = i;
+  given = p;
+  complete = none_missing before after os roots ms universe members none;
+  graph =
       let same : record { id = g.id; parents = parents; modules = ms; reads = reads } ≡ g = λ t. record { id = g.id; parents = sym p t; modules = sym m t; reads = sym r t } in
       subst (IsGraphOf before after roots) same (graph_right before after os roots ms universe members g.id parents reads h);
-  }
+}

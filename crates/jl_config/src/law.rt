@@ -7,11 +7,9 @@ ghost use Rattle.jl_config.specs.Unique.{ResolvesOnce};
 /// run.
 pub fn resolves_once()
     ensures { ResolvesOnce }
-{
-}
+{}
 
 /// Says that each resolution has an answer, where memory is not wanting. There is nothing to run.
 pub fn resolves_always()
     ensures { ResolvesAlways }
-{
-}
+{}

@@ -15,3 +15,6 @@ pub use configuration::{Configuration, Read};
 pub use fault::ResolveFault;
 pub use law::{resolves_always, resolves_once};
 pub use resolution::resolve;
+
+#[cfg(test)]
+mod tests;

@@ -13,11 +13,7 @@ use jl_prim::{ConfigId, Copied, CopyEnd, Items, Observed};
 use std::alloc::Global;
 
 /// Which of the modules, which stand in name order, reads which (JLS 7.7.1).
-pub fn reads_of(
-    alloc: Global,
-    id: ConfigId,
-    modules: &[Observed],
-) -> Result<Vec<Read>, CopyEnd>
+pub fn reads_of(alloc: Global, id: ConfigId, modules: &[Observed]) -> Result<Vec<Read>, CopyEnd>
     requires { RisesBy module_cmp modules.now }
     ensures { IfOk result (λ reads. AreReads id modules.now modules.now reads.items) }
 {

@@ -8,10 +8,10 @@ use Rattle.jl_config.proofs.readings.reads_of.Goals as goal
 
 pub marks_of_reader-requires : goal.marks_of_reader-requires
 marks_of_reader-requires c = record {
-    rise = c.requires;
-    passed_on = c.as_slice.ensures.value ∙ c.in_ok-next.ensures;
-    here = read_at c.args.modules.now c.loop-at.at c.index-modules-at.result c.loop-at-test.true c.index-modules-at.is;
-  }
+  rise = c.requires;
+  passed_on = c.as_slice.ensures.value ∙ c.in_ok-next.ensures;
+  here = read_at c.args.modules.now c.loop-at.at c.index-modules-at.result c.loop-at-test.true c.index-modules-at.is;
+}
 
 pub loop-at-init : goal.loop-at-init
 loop-at-init c = reads_none c.args.id c.args.modules.now c.new-reads.result.items c.new-reads.ensures.items

@@ -8,9 +8,9 @@ use Rattle.jl_config.proofs.universe.add.Goals as goal
 
 pub returns-in-Ok : goal.returns-in-Ok
 returns-in-Ok c = record {
-    rises = c.requires;
-    finds = not_added c.args.modules.now.items c.args.o.now c.in-Ok.field-0 (rw (sym c.as_slice.ensures.value) c.in-Ok.ensures);
-  }
+  rises = c.requires;
+  finds = not_added c.args.modules.now.items c.args.o.now c.in-Ok.field-0 (rw (sym c.as_slice.ensures.value) c.in-Ok.ensures);
+}
 
 pub insert-requires : goal.insert-requires
 insert-requires c = omega (arith, c.in-Err.ensures.1)
