@@ -1,11 +1,11 @@
 -- A declaration file: what is read stands there, and what stands there is read.
-use Rattle.std.proofs.Common.{◌≡◌, ℕ, zero, suc, ◌+◌, ◌<◌, ◌≤◌, List, [], ◌∷◌, ◌++◌, length, map, take, Bool, true, false, not, cond, eqb, ltb, Option, None, Some, Result, Ok, Err, refl, sym, ap, ◌∙◌, subst, inl, inr, arith}
-use Rattle.std.specs.Prelude.{◌⊎◌, IsTrue, IfOk, codes}
+use Rattle.std.proofs.Common.{◌≡◌, ℕ, zero, suc, ◌+◌, ◌<◌, ◌≤◌, List, [], ◌∷◌, ◌++◌, length, take, true, eqb, ltb, None, Some, Result, Ok, Err, refl, sym, ap, ◌∙◌, subst, arith}
+use Rattle.std.specs.Prelude.{IsTrue, IfOk, codes}
 use Rattle.std.proofs.lemmas.Bool.{eqb-true, eq-eqb, ltb-false, le-ltb}
 use Rattle.std.proofs.lemmas.List.{length-take-le}
 use Rattle.std.specs.Cmp.Lexicographic.{bytes_decides}
 use Rattle.jl_logic.specs.Answers.{Gives}
-use Rattle.jl_reading.specs.Reading.{◌>>=◌, Stands, IsBytes, number_at, each_at, two, four}
+use Rattle.jl_reading.specs.Reading.{Stands, IsBytes, number_at, each_at, two, four}
 use Rattle.jl_reading.proofs.Steps.{bind_ok, guard_ok, ok_is}
 use Rattle.jl_prim.specs.declared.declaration.Declaration.{Declaration}
 use Rattle.jl_pool.specs.declared.entry.Entry.{Entry}
@@ -17,11 +17,10 @@ use Rattle.jl_pool.proofs.Whole.{pool_stands, pool_again}
 use Rattle.jl_modinfo.specs.declared.module.Module.{Module}
 use Rattle.jl_modinfo.specs.declared.fault.InfoFault.{InfoFault}
 use Rattle.jl_modinfo.specs.declared.fault.InfoFault.TheVariants as faults
-use Rattle.jl_modinfo.specs.Faults.{told, short, named_or, pool_or, of_pool}
+use Rattle.jl_modinfo.specs.Faults.{told, short, named_or, pool_or}
 use Rattle.jl_modinfo.specs.Meaning.{is_text, keeps_base_rule}
-use Rattle.jl_modinfo.specs.Info.{Body, body_bytes, back_bytes, IsInfo}
+use Rattle.jl_modinfo.specs.Info.{body_bytes, IsInfo}
 use Rattle.jl_modinfo.specs.Reading.{content_end, module_at, module_attribute_at, begins, attribute_at, attributes_at, whole, declaration_of, front_at, empty_class_at, info_of}
-use Rattle.jl_modinfo.proofs.NameLaws.{names}
 use Rattle.jl_modinfo.proofs.FrontLaws.{Front, front_stands, front_reads, EmptyClass, empty_class_stands, empty_class_reads}
 use Rattle.jl_modinfo.proofs.ModuleLaws.{Content, content_stands, content_reads, named_ok}
 use Rattle.jl_modinfo.proofs.Standing.{Number, two_read, four_read, number_read, join, first, second, known, ends_at, cut, uncut, bytes_cut, bind_to, not_ok, else_ok}

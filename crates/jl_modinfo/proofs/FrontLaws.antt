@@ -1,17 +1,16 @@
 -- The file up to its attributes: what is read stands there, and what stands there is read.
-use Rattle.std.proofs.Common.{◌≡◌, ℕ, ◌+◌, ◌<◌, ◌≤◌, List, [], ◌∷◌, ◌++◌, length, Bool, true, false, not, cond, eqb, Option, None, Some, Result, Ok, Err, refl, sym, ap, ◌∙◌, inl, inr, arith}
+use Rattle.std.proofs.Common.{◌≡◌, ℕ, ◌+◌, ◌<◌, List, ◌++◌, Bool, true, false, eqb, Option, None, Some, Ok, refl, ap, inl, inr, arith}
 use Rattle.std.specs.Prelude.{◌⊎◌, ◌||◌, codes}
 use Rattle.std.proofs.lemmas.Bool.{eqb-true}
 use Rattle.std.specs.Cmp.Lexicographic.{bytes_decides}
-use Rattle.jl_reading.specs.Reading.{◌>>=◌, Stands, IsBytes, number_at, two, four}
-use Rattle.jl_reading.proofs.Steps.{bind_ok, guard_ok, ok_is}
+use Rattle.jl_reading.specs.Reading.{Stands, IsBytes, number_at, two, four}
+use Rattle.jl_reading.proofs.Steps.{bind_ok, ok_is}
 use Rattle.jl_pool.specs.declared.entry.Entry.{Entry}
-use Rattle.jl_modinfo.specs.declared.fault.InfoFault.{InfoFault}
 use Rattle.jl_modinfo.specs.declared.fault.InfoFault.TheVariants as faults
 use Rattle.jl_modinfo.specs.Faults.{short}
-use Rattle.jl_modinfo.specs.Meaning.{class_named, is_text, is_module_info}
+use Rattle.jl_modinfo.specs.Meaning.{class_named, is_module_info}
 use Rattle.jl_modinfo.specs.Reading.{front_at, zero_at, this_at, empty_class_at}
-use Rattle.jl_modinfo.proofs.Standing.{Number, two_read, four_read, number_read, join, first, second, known, ends_at, bind_to, not_ok, else_ok}
+use Rattle.jl_modinfo.proofs.Standing.{two_read, four_read, number_read, join, first, second, known, ends_at, bind_to, not_ok, else_ok}
 
 -- ---- magic and version
 

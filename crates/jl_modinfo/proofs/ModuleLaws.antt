@@ -1,23 +1,22 @@
 -- The content of a Module attribute: what is read stands there, and what stands there is read.
-use Rattle.std.proofs.Common.{◌≡◌, ℕ, zero, suc, ◌+◌, ◌<◌, ◌≤◌, List, [], ◌∷◌, ◌++◌, length, map, take, Bool, true, false, cond, eqb, Option, None, Some, Result, Ok, Err, refl, sym, ap, ◌∙◌, subst, inl, inr, arith, append_assoc}
-use Rattle.std.specs.Prelude.{◌⊎◌, Contains, codes}
+use Rattle.std.proofs.Common.{◌≡◌, ℕ, zero, suc, ◌+◌, ◌<◌, ◌≤◌, List, [], ◌∷◌, ◌++◌, length, false, eqb, Option, None, Some, Ok, refl, sym, ap, ◌∙◌, subst, arith, append_assoc}
+use Rattle.std.specs.Prelude.{codes}
 use Rattle.std.specs.List.{flat_map}
 use Rattle.std.proofs.lemmas.Bool.{eqb-true, eq-eqb}
 use Rattle.std.proofs.lemmas.List.{map_push, map-append, append-nil}
 use Rattle.jl_logic.specs.Lists.{AreDistinct}
-use Rattle.jl_reading.specs.Reading.{◌>>=◌, Stands, IsBytes, number_at, each_at, two}
+use Rattle.jl_reading.specs.Reading.{Stands, IsBytes, number_at, each_at, two}
 use Rattle.jl_reading.proofs.Steps.{bind_ok, guard_ok, ok_is}
 use Rattle.jl_prim.specs.declared.declaration.Requires.{Requires}
 use Rattle.jl_pool.specs.declared.entry.Entry.{Entry}
 use Rattle.jl_modinfo.specs.declared.module.Module.{Module}
-use Rattle.jl_modinfo.specs.declared.fault.InfoFault.{InfoFault}
 use Rattle.jl_modinfo.specs.declared.fault.InfoFault.TheVariants as faults
 use Rattle.jl_modinfo.specs.Faults.{short, named_or}
 use Rattle.jl_modinfo.specs.Meaning.{module_named, version_named, is_set, is_required}
 use Rattle.jl_modinfo.specs.Info.{Row, Body, row_bytes, body_bytes, Declares, DeclareAll}
 use Rattle.jl_modinfo.specs.Reading.{module_name_at, version_at, requires_at, requires_table_at, unbuilt_at, module_at}
 use Rattle.jl_modinfo.proofs.NameLaws.{names, distinct_push, distinct_apart, not_required, required_not}
-use Rattle.jl_modinfo.proofs.Standing.{Number, two_read, number_read, join, first, second, known, ends_at, bind_to, not_ok, else_ok}
+use Rattle.jl_modinfo.proofs.Standing.{Number, two_read, number_read, join, first, second, known, ends_at, bind_to, else_ok}
 
 -- ---- indices
 

@@ -1,5 +1,5 @@
 -- What the error of a reader tells, and the faults that come from a pool or an index.
-use Rattle.std.specs.Prelude.{◌≡◌, ℕ, Option, None, Some, Result, Ok, Err}
+use Rattle.std.specs.Prelude.{ℕ, Option, None, Some, Result, Ok, Err}
 use Rattle.jl_pool.specs.declared.fault.PoolFault.{PoolFault}
 use Rattle.jl_pool.specs.declared.fault.PoolFault.TheVariants as pools
 use Rattle.jl_modinfo.specs.declared.fault.InfoFault.{InfoFault}

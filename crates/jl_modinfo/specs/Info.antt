@@ -1,6 +1,6 @@
 -- The spelling of a declaration file: a relation between its bytes and a declaration (JVMS 4.1, 4.7.25).
 use Rattle.std.specs.Prelude.{◌≡◌, ℕ, ◌<◌, List, [], ◌∷◌, ◌++◌, length, map, Option, None, Some, IsTrue, codes, ◌⊎◌}
-use Rattle.std.specs.List.{flat_map, AllByRecursion}
+use Rattle.std.specs.List.{flat_map}
 use Rattle.jl_logic.specs.Lists.{AreDistinct}
 use Rattle.jl_reading.specs.Reading.{Stands, two, four}
 use Rattle.jl_prim.specs.declared.declaration.Requires.{Requires}

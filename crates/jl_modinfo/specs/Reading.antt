@@ -1,6 +1,5 @@
 -- Reading a declaration file from left to right, with the first fault that is met (JVMS 4.1, 4.7.25).
-use Rattle.std.specs.Prelude.{◌≡◌, ℕ, ◌+◌, List, [], ◌∷◌, length, take, map, Option, None, Some, Result, Ok, Err, Bool, true, false, not, ◌&&◌, ◌||◌, nat_lt, ◌==◌, nat_eq, codes, if◌then◌else◌}
-use Rattle.std.specs.List.{list_any}
+use Rattle.std.specs.Prelude.{ℕ, ◌+◌, List, [], ◌∷◌, length, take, Option, None, Result, Ok, Err, Bool, true, false, not, ◌||◌, nat_lt, ◌==◌, codes, if◌then◌else◌}
 use Rattle.jl_reading.specs.Reading.{◌>>=◌, number_at, each_at}
 use Rattle.jl_prim.specs.declared.declaration.Requires.{Requires}
 use Rattle.jl_prim.specs.declared.declaration.Declaration.{Declaration}
@@ -11,7 +10,7 @@ use Rattle.jl_modinfo.specs.declared.module.Module.{Module}
 use Rattle.jl_modinfo.specs.declared.fault.InfoFault.{InfoFault}
 use Rattle.jl_modinfo.specs.declared.fault.InfoFault.TheVariants as faults
 use Rattle.jl_modinfo.specs.Meaning.{is_text, module_named, version_named, class_named, is_set, keeps_base_rule, is_module_info, is_required}
-use Rattle.jl_modinfo.specs.Faults.{told, short, of_pool, pool_or, named_or}
+use Rattle.jl_modinfo.specs.Faults.{short, pool_or, named_or}
 
 -- ---- up to the attributes
 

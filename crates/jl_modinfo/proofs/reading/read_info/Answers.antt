@@ -1,4 +1,4 @@
-use Rattle.std.proofs.Common.{◌≡◌, arith}
+use Rattle.std.proofs.Common.{arith}
 use Rattle.jl_modinfo.proofs.FileLaws.{found_in, only_in}
 use Rattle.jl_modinfo.proofs.reading.read_info.Goals as goal
 

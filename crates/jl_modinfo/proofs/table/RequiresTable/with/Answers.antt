@@ -1,4 +1,4 @@
-use Rattle.std.proofs.Common.{◌≡◌, ◌∙◌, ap, sym}
+use Rattle.std.proofs.Common.{◌∙◌, ap, sym}
 use Rattle.jl_modinfo.specs.Meaning.{is_required}
 use Rattle.jl_modinfo.proofs.NameLaws.{names, names_with}
 use Rattle.jl_modinfo.proofs.table.RequiresTable.with.Goals as goal
