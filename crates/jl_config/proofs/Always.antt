@@ -75,15 +75,18 @@ put done os o u = by (place_named (name_of o) os) refl
   where
     grown : (us : List Observed) → ((name : List ℕ) → find_named name us ≡ find_named name (os ++ o ∷ [])) → (name : List ℕ) → find_named name us ≡ find_named name (done ++ o ∷ [])
     grown us h name = h name ∙ found_in_parts os done (o ∷ []) name (u.finds name)
+
     by : (p : Option ℕ) → place_named (name_of o) os ≡ p → (us : List Observed) × IsUniverse (done ++ o ∷ []) us
     by (Some p) e = (os, record { rises = u.rises; finds = grown os (not_added os o p e) })
     by None e =
         let c = cut_at os o u.rises e in
-        let up : RisesBy module_cmp (c.low ++ c.high) = subst (RisesBy module_cmp) c.whole u.rises in
-        (c.low ++ o ∷ c.high, record {
-          rises = rises_between module_cmp modules_total c.low c.high o up c.below c.above;
-          finds = grown (c.low ++ o ∷ c.high) (λ name. moved c.low c.high o name (differ_above o c.high c.above) ∙ ap (λ (l : List Observed). find_named name (l ++ o ∷ [])) (sym c.whole));
-        })
+        let up : RisesBy module_cmp (c.low ++ c.high) = subst (RisesBy module_cmp) c.whole u.rises in (
+          c.low ++ o ∷ c.high,
+          record {
+            rises = rises_between module_cmp modules_total c.low c.high o up c.below c.above;
+            finds = grown (c.low ++ o ∷ c.high) (λ name. moved c.low c.high o name (differ_above o c.high c.above) ∙ ap (λ (l : List Observed). find_named name (l ++ o ∷ [])) (sym c.whole));
+          },
+        )
 
 put_all : (done rest os : List Observed) → IsUniverse done os → (us : List Observed) × IsUniverse (done ++ rest) us
 put_all done [] os u = (os, record { rises = u.rises; finds = λ name. u.finds name ∙ ap (find_named name) (sym (append-nil done)) })
