@@ -4,5 +4,6 @@ pub mod Leasts
 pub mod Lists
 pub mod Orders
 pub mod Grown
+mod Rows
 pub mod Unique
 pub mod Whole
