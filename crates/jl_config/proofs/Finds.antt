@@ -206,7 +206,7 @@ each_dropped P [] (suc p) h = tt
 each_dropped P (w ∷ os) (suc p) h = each_dropped P os p (λ k d a b. h (suc k) d (omega arith) (omega arith))
 
 -- a module whose name no other has is found at whatever place
-moved : (xs ys : List Observed) (o : Observed) (name : List ℕ) → AllByRecursion (λ w. pointwise nat_eq (name_of w) (name_of o) ≡ false) ys → find_named name (xs ++ o ∷ ys) ≡ find_named name ((xs ++ ys) ++ o ∷ [])
+pub moved : (xs ys : List Observed) (o : Observed) (name : List ℕ) → AllByRecursion (λ w. pointwise nat_eq (name_of w) (name_of o) ≡ false) ys → find_named name (xs ++ o ∷ ys) ≡ find_named name ((xs ++ ys) ++ o ∷ [])
 moved [] [] o name h = refl
 moved [] (w ∷ ys) o name h = by (moved [] ys o name h.1) (pointwise nat_eq (name_of o) name) (pointwise nat_eq (name_of w) name) refl refl
   where

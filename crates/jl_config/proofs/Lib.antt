@@ -7,3 +7,4 @@ pub mod Grown
 mod Rows
 pub mod Unique
 pub mod Whole
+pub mod Always

@@ -4,3 +4,4 @@ pub mod Missing
 pub mod Places
 pub mod Resolves
 pub mod Unique
+pub mod Always

@@ -13,7 +13,7 @@ mod universe;
 
 pub use configuration::{Configuration, Read};
 pub use fault::ResolveFault;
-pub use law::resolves_once;
+pub use law::{resolves_always, resolves_once};
 pub use resolution::resolve;
 
 #[cfg(test)]

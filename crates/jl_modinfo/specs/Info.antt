@@ -1,12 +1,12 @@
 -- The spelling of a declaration file: a relation between its bytes and a declaration (JVMS 4.1, 4.7.25).
 use Rattle.std.specs.Prelude.{◌≡◌, ℕ, ◌<◌, List, [], ◌∷◌, ◌++◌, length, map, Option, None, Some, IsTrue, codes, ◌⊎◌}
-use Rattle.std.specs.List.{flat_map, AllByRecursion}
+use Rattle.std.specs.List.{flat_map}
 use Rattle.jl_logic.specs.Lists.{AreDistinct}
 use Rattle.jl_reading.specs.Reading.{Stands, two, four}
 use Rattle.jl_prim.specs.declared.declaration.Requires.{Requires}
 use Rattle.jl_prim.specs.declared.declaration.Declaration.{Declaration}
 use Rattle.jl_pool.specs.declared.entry.Entry.{Entry}
-use Rattle.jl_pool.specs.Pool.{utf8_of}
+use Rattle.jl_pool.specs.Pool.{text_of}
 use Rattle.jl_pool.specs.Spelling.{StandsPool}
 use Rattle.jl_modinfo.specs.Meaning.{module_named, version_named, class_named, is_set, keeps_base_rule}
 
@@ -33,7 +33,7 @@ body_bytes b = two b.index ++ (two b.flags ++ (two b.version ++ (two (length b.r
 -- from the flags of the file to its end: an empty class with one attribute
 abbrev pub back_bytes : ℕ → ℕ → Body → List ℕ
 back_bytes this attribute b =
-  two 0x8000 ++ (two this ++ (two 0 ++ (two 0 ++ (two 0 ++ (two 0 ++ (two 1 ++ (two attribute ++ (four (length (body_bytes b)) ++ body_bytes b))))))))
+    two 0x8000 ++ (two this ++ (two 0 ++ (two 0 ++ (two 0 ++ (two 0 ++ (two 1 ++ (two attribute ++ (four (length (body_bytes b)) ++ body_bytes b))))))))
 
 -- the row declares this entry
 pub record Declares (pool : List Entry) (r : Row) (e : Requires) : Type 0 where
@@ -66,7 +66,7 @@ pub record IsInfo (bytes : List ℕ) (found : List (List ℕ)) (d : Declaration)
   pub pool_stands : StandsPool bytes 8 pool pool_end
   pub back : Stands bytes pool_end (back_bytes this attribute body) (length bytes)
   pub this_named : class_named pool this ≡ Some (codes "module-info")
-  pub attribute_named : utf8_of pool attribute ≡ Some (codes "Module")
+  pub attribute_named : text_of pool attribute ≡ Some (codes "Module")
   pub name : module_named pool body.index ≡ Some d.name
   pub is_open : d.is_open ≡ is_set body.flags 0x20
   pub version_declared : version_named pool body.version ≡ Some d.version

@@ -1,10 +1,9 @@
 -- The parts of a Module attribute, and what they declare by the pool (JVMS 4.7.25).
-use Rattle.std.specs.Prelude.{◌≡◌, ℕ, List, [], ◌∷◌, map, Option, None, Some, Bool, true, false, ◌&&◌, ◌==◌, nat_eq, codes, bit_and, if◌then◌else◌}
+use Rattle.std.specs.Prelude.{ℕ, List, [], ◌∷◌, Option, None, Some, Bool, true, false, ◌&&◌, ◌==◌, nat_eq, codes, bit_and, if◌then◌else◌}
 use Rattle.std.specs.List.{list_any}
 use Rattle.std.specs.Option.{option_and_then}
 use Rattle.std.specs.Cmp.Lexicographic.{pointwise}
 use Rattle.jl_prim.specs.declared.declaration.Requires.{Requires}
-use Rattle.jl_prim.specs.declared.declaration.Declaration.{Declaration}
 use Rattle.jl_prim.specs.Names.{names_a_module}
 use Rattle.jl_names.specs.Text.{plain, has_no_lone_surrogate}
 use Rattle.jl_pool.specs.declared.entry.Entry.{Entry}
@@ -34,13 +33,23 @@ version_named pool i = if i == 0 then Some None else option_and_then (λ text. S
 abbrev pub class_named : List Entry → ℕ → Option (List ℕ)
 class_named pool i = option_and_then (text_of pool) (class_of pool i)
 
+-- the name of the class of a module declaration
+abbrev pub is_module_info : Option (List ℕ) → Bool
+is_module_info None = false
+is_module_info (Some name) = is_text name (codes "module-info")
+
+-- all bits of the flag are set
 abbrev pub is_set : ℕ → ℕ → Bool
 is_set flags flag = bit_and flags flag == flag
+
+-- one of these entries is for the module with this name
+abbrev pub is_required : List ℕ → List Requires → Bool
+is_required name done = list_any (λ r. is_text r.name name) done
 
 -- ---- the rule on java.base (JLS 7.7.1, JVMS 4.7.25)
 
 abbrev pub requires_base : List Requires → Bool
-requires_base required = list_any (λ r. is_text r.name java_base) required
+requires_base required = is_required java_base required
 
 abbrev pub is_none : List Requires → Bool
 is_none [] = true

@@ -1,47 +1,18 @@
 -- Reading a declaration file from left to right, with the first fault that is met (JVMS 4.1, 4.7.25).
-use Rattle.std.specs.Prelude.{◌≡◌, ℕ, ◌+◌, List, [], ◌∷◌, length, take, map, Option, None, Some, Result, Ok, Err, Bool, true, false, not, ◌&&◌, ◌||◌, nat_lt, ◌==◌, nat_eq, codes, if◌then◌else◌}
-use Rattle.std.specs.List.{list_any}
+use Rattle.std.specs.Prelude.{ℕ, ◌+◌, List, [], ◌∷◌, length, take, Option, None, Result, Ok, Err, Bool, true, false, not, ◌||◌, nat_lt, ◌==◌, codes, if◌then◌else◌}
 use Rattle.jl_reading.specs.Reading.{◌>>=◌, number_at, each_at}
 use Rattle.jl_prim.specs.declared.declaration.Requires.{Requires}
 use Rattle.jl_prim.specs.declared.declaration.Declaration.{Declaration}
 use Rattle.jl_pool.specs.declared.entry.Entry.{Entry}
-use Rattle.jl_pool.specs.declared.fault.PoolFault.{PoolFault}
-use Rattle.jl_pool.specs.declared.fault.PoolFault.TheVariants as pools
-use Rattle.jl_pool.specs.Pool.{utf8_of}
+use Rattle.jl_pool.specs.Pool.{text_of}
 use Rattle.jl_pool.specs.Reading.{pool_at}
+use Rattle.jl_modinfo.specs.declared.module.Module.{Module}
 use Rattle.jl_modinfo.specs.declared.fault.InfoFault.{InfoFault}
 use Rattle.jl_modinfo.specs.declared.fault.InfoFault.TheVariants as faults
-use Rattle.jl_modinfo.specs.Meaning.{is_text, module_named, version_named, class_named, is_set, keeps_base_rule}
-
--- what an error tells: the fault, or nothing for want of memory
-abbrev pub told : InfoFault → Option InfoFault
-told faults.BadMagic = Some faults.BadMagic
-told faults.BadVersion = Some faults.BadVersion
-told (faults.Short at) = Some (faults.Short at)
-told (faults.BadPool i) = Some (faults.BadPool i)
-told (faults.NotModule field) = Some (faults.NotModule field)
-told faults.NoModuleAttribute = Some faults.NoModuleAttribute
-told (faults.BadIndex at) = Some (faults.BadIndex at)
-told (faults.Repeated table name) = Some (faults.Repeated table name)
-told faults.BaseRule = Some faults.BaseRule
-told (faults.PackageMissing name) = Some (faults.PackageMissing name)
-told faults.Trailing = Some faults.Trailing
-told (faults.NotBuilt at) = Some (faults.NotBuilt at)
-told faults.NoMemory = None
-
-abbrev pub short : ℕ → InfoFault
-short at = faults.Short at
+use Rattle.jl_modinfo.specs.Meaning.{is_text, module_named, version_named, class_named, is_set, keeps_base_rule, is_module_info, is_required}
+use Rattle.jl_modinfo.specs.Faults.{short, pool_or, named_or}
 
 -- ---- up to the attributes
-
-abbrev pub of_pool : PoolFault → InfoFault
-of_pool (pools.Short at) = faults.Short at
-of_pool (pools.Entry i) = faults.BadPool i
-of_pool pools.NoMemory = faults.NoMemory
-
-abbrev pub pool_or : {A : Type 0} → Result A PoolFault → Result A InfoFault
-pool_or (Ok x) = Ok x
-pool_or (Err f) = Err (of_pool f)
 
 -- magic and version, up to the pool
 unfoldable pub front_at : List ℕ → Result ℕ InfoFault
@@ -57,10 +28,6 @@ unfoldable pub zero_at : List ℕ → List ℕ → ℕ → Result ℕ InfoFault
 zero_at field bytes at = do
   n ← number_at short 2 bytes at
   if n.0 == 0 then Ok n.1 else Err (faults.NotModule field)
-
-abbrev pub is_module_info : Option (List ℕ) → Bool
-is_module_info None = false
-is_module_info (Some name) = is_text name (codes "module-info")
 
 -- flags and the name of the file's class
 unfoldable pub this_at : List Entry → List ℕ → ℕ → Result ℕ InfoFault
@@ -81,11 +48,6 @@ empty_class_at pool bytes at = do
 
 -- ---- the Module attribute
 
--- what an index must have
-abbrev pub named_or : {A : Type 0} → ℕ → Option A → Result A InfoFault
-named_or at None = Err (faults.BadIndex at)
-named_or at (Some x) = Ok x
-
 -- the index of a module, as its name
 unfoldable pub module_name_at : List Entry → List ℕ → ℕ → Result (List ℕ × ℕ) InfoFault
 module_name_at pool bytes at = do
@@ -100,9 +62,6 @@ version_at pool bytes at = do
   version ← named_or at (version_named pool i.0)
   Ok (version, i.1)
 
-abbrev pub is_required : List ℕ → List Requires → Bool
-is_required name done = list_any (λ r. is_text r.name name) done
-
 -- An entry of the requires table. A module that an earlier entry has is repeated.
 unfoldable pub requires_at : List Entry → List ℕ → List Requires → ℕ → Result (Requires × ℕ) InfoFault
 requires_at pool bytes done at = do
@@ -112,18 +71,17 @@ requires_at pool bytes done at = do
     version ← version_at pool bytes flags.1
     Ok (record { name = name.0; transitive = is_set flags.0 0x20; is_static = is_set flags.0 0x40 }, version.1))
 
+-- the requires table whose count stands at a place
+unfoldable pub requires_table_at : List Entry → List ℕ → ℕ → Result (List Requires × ℕ) InfoFault
+requires_table_at pool bytes at = do
+  count ← number_at short 2 bytes at
+  each_at (requires_at pool bytes) [] count.0 count.1
+
 -- the count of a table that is not read yet
 unfoldable pub unbuilt_at : List ℕ → ℕ → Result ℕ InfoFault
 unbuilt_at bytes at = do
   n ← number_at short 2 bytes at
   if n.0 == 0 then Ok n.1 else Err (faults.NotBuilt at)
-
--- what a Module attribute declares
-pub record Module : Type 0 where
-  pub name : List ℕ
-  pub is_open : Bool
-  pub version : Option (List ℕ)
-  pub required : List Requires
 
 -- the content of a Module attribute, all of the bytes from a place on
 unfoldable pub module_at : List Entry → List ℕ → ℕ → Result Module InfoFault
@@ -131,8 +89,7 @@ module_at pool bytes at = do
   name ← module_name_at pool bytes at
   flags ← number_at short 2 bytes name.1
   version ← version_at pool bytes flags.1
-  count ← number_at short 2 bytes version.1
-  required ← each_at (requires_at pool bytes) [] count.0 count.1
+  required ← requires_table_at pool bytes version.1
   exports ← unbuilt_at bytes required.1
   opens ← unbuilt_at bytes exports
   uses ← unbuilt_at bytes opens
@@ -154,33 +111,47 @@ begins (m ∷ ms) = false
 -- A Module attribute behind its name. A second one is repeated.
 unfoldable pub module_attribute_at : List Entry → List ℕ → List Module → ℕ → Result (Module × ℕ) InfoFault
 module_attribute_at pool bytes done at =
-  if not (begins done) then Err (faults.Repeated (codes "attributes") (codes "Module")) else (do
-    content ← content_end bytes at
-    m ← module_at pool (take content.1 bytes) content.0
-    Ok (m, content.1))
+    if not (begins done) then Err (faults.Repeated (codes "attributes") (codes "Module")) else (do
+      content ← content_end bytes at
+      m ← module_at pool (take content.1 bytes) content.0
+      Ok (m, content.1))
 
 -- An attribute. None but Module is read yet.
 unfoldable pub attribute_at : List Entry → List ℕ → List Module → ℕ → Result (Module × ℕ) InfoFault
 attribute_at pool bytes done at = do
   i ← number_at short 2 bytes at
-  name ← named_or at (utf8_of pool i.0)
+  name ← named_or at (text_of pool i.0)
   if is_text name (codes "Module") then module_attribute_at pool bytes done i.1 else Err (faults.NotBuilt at)
+
+-- the attributes whose count stands at a place
+unfoldable pub attributes_at : List Entry → List ℕ → ℕ → Result (List Module × ℕ) InfoFault
+attributes_at pool bytes at = do
+  count ← number_at short 2 bytes at
+  each_at (attribute_at pool bytes) [] count.0 count.1
 
 -- ---- the whole file
 
 abbrev pub declaration_of : Module → List (List ℕ) → Declaration
 declaration_of m found = record {
-  name = m.name; is_open = m.is_open; version = m.version; required = m.required;
-  exports = []; opens = []; uses = []; provides = []; packages = found; main = None
+  name = m.name;
+  is_open = m.is_open;
+  version = m.version;
+  required = m.required;
+  exports = [];
+  opens = [];
+  uses = [];
+  provides = [];
+  packages = found;
+  main = None;
 }
 
 -- the rules on the whole file, in order
 abbrev pub whole : List (List ℕ) → List ℕ → List Module × ℕ → Result Declaration InfoFault
 whole found bytes ([], at) = Err faults.NoModuleAttribute
 whole found bytes (m ∷ ms, at) =
-  if not (at == length bytes) then Err faults.Trailing
-  else if keeps_base_rule m.name m.required then Ok (declaration_of m found)
-  else Err faults.BaseRule
+    if not (at == length bytes) then Err faults.Trailing
+    else if keeps_base_rule m.name m.required then Ok (declaration_of m found)
+    else Err faults.BaseRule
 
 -- the declaration in a file, or its first fault
 unfoldable pub info_of : List ℕ → List (List ℕ) → Result Declaration InfoFault
@@ -188,6 +159,5 @@ info_of bytes found = do
   front ← front_at bytes
   pool ← pool_or (pool_at bytes front)
   at ← empty_class_at pool.0 bytes pool.1
-  count ← number_at short 2 bytes at
-  modules ← each_at (attribute_at pool.0 bytes) [] count.0 count.1
+  modules ← attributes_at pool.0 bytes at
   whole found bytes modules

@@ -1,11 +1,14 @@
 //! Why a declaration was not read.
 
-ghost use Rattle.std.specs.Prelude.{◌≡◌};
-ghost use Rattle.jl_modinfo.specs.declared.fault.InfoFault.TheVariants.{NoMemory};
+ghost use Rattle.std.specs.Prelude.{◌≡◌, Err};
+ghost use Rattle.jl_logic.specs.Answers.{Gives};
+ghost use Rattle.jl_modinfo.specs.declared.fault.InfoFault.TheVariants.{NotModule, Repeated, NoMemory};
+ghost use Rattle.jl_modinfo.specs.Faults.{told, of_pool};
 
-use jl_prim::Name;
+use jl_pool::PoolFault;
+use jl_prim::{CopyEnd, Name, PushEnd};
 use jl_reading::Fault;
-use std::alloc::{AllocError, AllocFailed};
+use std::alloc::{AllocError, AllocFailed, Global};
 
 /// Why a declaration was not read: the first fault from the left, then the rules on the whole file in the
 /// order `NoModuleAttribute`, `Trailing`, `BaseRule`, `PackageMissing`.
@@ -63,4 +66,48 @@ impl<T: Drop> From<AllocFailed<T>> for InfoFault {
     fn from(_e: AllocFailed<T>) -> InfoFault {
         InfoFault::NoMemory
     }
+}
+
+impl From<CopyEnd> for InfoFault {
+    ghost from_gives = { λ _ e. e ≡ NoMemory };
+
+    fn from(_e: CopyEnd) -> InfoFault {
+        InfoFault::NoMemory
+    }
+}
+
+impl From<PushEnd> for InfoFault {
+    ghost from_gives = { λ _ e. e ≡ NoMemory };
+
+    fn from(_e: PushEnd) -> InfoFault {
+        InfoFault::NoMemory
+    }
+}
+
+impl From<PoolFault> for InfoFault {
+    ghost from_gives = { λ f e. e ≡ of_pool f };
+
+    fn from(f: PoolFault) -> InfoFault {
+        match f {
+            PoolFault::Short(at) => InfoFault::Short(at),
+            PoolFault::Entry(index) => InfoFault::BadPool(index),
+            PoolFault::NoMemory => InfoFault::NoMemory,
+        }
+    }
+}
+
+/// The fault of a part that no module declaration has.
+pub fn not_module<T>(alloc: Global, field: &str) -> Result<T, InfoFault>
+    ensures { Gives told (λ x. x) result (Err (NotModule field.now)) }
+{
+    Err(InfoFault::NotModule(Name::from_text(alloc, field)?))
+}
+
+/// The fault of a name that a table has twice.
+pub fn repeated<T>(alloc: Global, table: &str, name: &str) -> Result<T, InfoFault>
+    ensures { Gives told (λ x. x) result (Err (Repeated table.now name.now)) }
+{
+    let table = Name::from_text(alloc, table)?;
+    let name = Name::from_text(alloc, name)?;
+    Err(InfoFault::Repeated(table, name))
 }

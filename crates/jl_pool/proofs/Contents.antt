@@ -1,11 +1,11 @@
 -- The content behind a tag: what is read is spelled so, and what is spelled so is read.
-use Rattle.std.proofs.Common.{◌≡◌, ℕ, ◌+◌, ◌^◌, ◌<◌, ◌≤◌, Bool, true, false, cond, eqb, ltb, ◌==◌, List, [], ◌∷◌, ◌++◌, length, take, drop, Result, Ok, Err, refl, sym, ap, subst, ◌∙◌, arith}
+use Rattle.std.proofs.Common.{◌≡◌, ℕ, ◌+◌, ◌^◌, ◌<◌, ◌≤◌, true, false, cond, eqb, ltb, ◌==◌, List, ◌++◌, length, take, drop, Result, Ok, Err, refl, sym, ap, subst, ◌∙◌, arith}
 use Rattle.std.proofs.lemmas.Bool.{cond_both, eqb-true, ltb-false, le-ltb}
-use Rattle.std.proofs.lemmas.List.{length-take, length-drop, take_at}
+use Rattle.std.proofs.lemmas.List.{length-take, length-drop}
 use Rattle.byteorder.specs.Endian.{big_bytes}
 use Rattle.jl_reading.specs.Reading.{◌>>=◌, number_at, Stands, IsBytes, two}
 use Rattle.jl_reading.proofs.Steps.{bind_ok, guard_ok, ok_is}
-use Rattle.jl_reading.proofs.Stands.{IsBytes-drop, IsBytes-take, Stands-taken, Stands-then, Stands-splits, Stands-parts, number_stands, number_again}
+use Rattle.jl_reading.proofs.Stands.{IsBytes-drop, IsBytes-take, Stands-taken, Stands-then, Stands-splits, number_stands, number_again}
 use Rattle.jl_names.specs.Text.{text_bytes, units_read}
 use Rattle.jl_names.specs.declared.fault.TextFault.{TextFault}
 use Rattle.jl_names.proofs.TextLaws.{units_found, units_again}

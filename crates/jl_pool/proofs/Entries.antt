@@ -1,17 +1,15 @@
 -- Entries one after the other: what is read is spelled so, and what is spelled so is read.
-use Rattle.std.proofs.Common.{◌≡◌, ℕ, zero, suc, ◌+◌, ◌-◌, ◌<◌, ◌≤◌, Bool, true, false, not, cond, eqb, ◌==◌, List, [], ◌∷◌, ◌++◌, length, slice_get, Option, None, Some, Result, Ok, Err, refl, sym, ap, subst, ◌∙◌, append_assoc, arith}
-use Rattle.std.specs.Prelude.{IsTrue, ⊤}
+use Rattle.std.proofs.Common.{◌≡◌, ℕ, zero, suc, ◌+◌, ◌-◌, ◌<◌, Bool, true, false, not, ◌==◌, List, [], ◌∷◌, ◌++◌, length, slice_get, Some, Ok, refl, sym, ap, subst, ◌∙◌, arith}
 use Rattle.std.specs.List.{AllByRecursion}
 use Rattle.std.proofs.lemmas.Bool.{cond_both, eqb-false, ne_eqb, not-true}
 use Rattle.std.proofs.lemmas.List.{length_push}
 use Rattle.byteorder.specs.Endian.{big_bytes}
 use Rattle.jl_reading.specs.Reading.{◌>>=◌, number_at, Stands, IsBytes, two, four}
 use Rattle.jl_reading.proofs.Steps.{bind_ok, ok_is}
-use Rattle.jl_reading.proofs.Stands.{Stands-nothing, Stands-then, Stands-splits, number_stands, number_again, Along, UnitStands, UnitAgain}
+use Rattle.jl_reading.proofs.Stands.{Stands-nothing, Stands-then, Stands-splits, number_stands, number_again, Along, UnitStands}
 use Rattle.jl_names.specs.Text.{text_bytes}
 use Rattle.jl_pool.specs.declared.entry.Entry.{Entry}
 use Rattle.jl_pool.specs.declared.entry.Entry.TheVariants as entries
-use Rattle.jl_pool.specs.declared.fault.PoolFault.{PoolFault}
 use Rattle.jl_pool.specs.declared.fault.PoolFault.TheVariants as faults
 use Rattle.jl_pool.specs.Pool.{is_wide, is_some_wide, is_unused}
 use Rattle.jl_pool.specs.Reading.{content_at, ends_wide, entry_at}

@@ -1,3 +1,4 @@
 pub mod Contents
 pub mod Entries
+mod Rows
 pub mod Whole

@@ -1,10 +1,10 @@
 -- Whole pools: what is read is spelled so, and what is spelled so is read.
-use Rattle.std.proofs.Common.{◌≡◌, ℕ, zero, suc, ◌+◌, ◌-◌, ◌<◌, ◌≤◌, Bool, true, false, not, cond, ltb, List, [], ◌∷◌, ◌++◌, length, Option, None, Some, Result, Ok, Err, refl, sym, ap, subst, ◌∙◌, arith, inl, inr}
-use Rattle.std.specs.Prelude.{position, IsTrue, IfOk, ◌⊎◌}
+use Rattle.std.proofs.Common.{◌≡◌, ℕ, zero, suc, ◌+◌, ◌-◌, ◌<◌, ◌≤◌, Bool, true, false, not, cond, ltb, List, [], ◌∷◌, length, Option, None, Some, Result, Ok, Err, refl, sym, ap, subst, ◌∙◌, arith, inl, inr}
+use Rattle.std.specs.Prelude.{position, IsTrue, IfOk}
 use Rattle.std.specs.List.{flat_map, AllByRecursion, prefix_len}
-use Rattle.std.proofs.lemmas.Bool.{cond_both, ltb-false, le-ltb, not-false, not_from_true, cases_Bool}
+use Rattle.std.proofs.lemmas.Bool.{cond_both, ltb-false, le-ltb}
 use Rattle.jl_logic.specs.Answers.{Gives}
-use Rattle.jl_reading.specs.Reading.{◌>>=◌, number_at, each_at, Stands, IsBytes, two}
+use Rattle.jl_reading.specs.Reading.{◌>>=◌, number_at, each_at, IsBytes, two}
 use Rattle.jl_reading.proofs.Steps.{bind_ok, ok_is}
 use Rattle.jl_reading.proofs.Stands.{Stands-then, Stands-splits, number_stands, number_again, Along, each_stands, each_again}
 use Rattle.jl_pool.specs.declared.entry.Entry.{Entry}
@@ -13,7 +13,7 @@ use Rattle.jl_pool.specs.declared.fault.PoolFault.{PoolFault}
 use Rattle.jl_pool.specs.declared.fault.PoolFault.TheVariants as faults
 use Rattle.jl_pool.specs.Pool.{refers_rightly}
 use Rattle.jl_pool.specs.Reading.{told, entry_at, refers_or, pool_at}
-use Rattle.jl_pool.specs.Spelling.{entry_bytes, EntryFits, AreSpaced, ArePoolEntries, IsCount, StandsPool}
+use Rattle.jl_pool.specs.Spelling.{entry_bytes, EntryFits, AreSpaced, IsCount, StandsPool}
 use Rattle.jl_pool.proofs.Entries.{Fit, entry_stands, entry_again, spaced_along, along_spaced, fits_along}
 
 -- a pool whose count and entries are read and whose references are right is read

@@ -1,5 +1,5 @@
 -- A pool is the list of its entries, index 0 the first. What stands at an index, and which references are right (JVMS 4.4).
-use Rattle.std.specs.Prelude.{ℕ, ℤ, List, Option, None, Some, Bool, true, false, ◌&&◌, slice_get, option_map, is_some}
+use Rattle.std.specs.Prelude.{ℕ, ℤ, List, Option, None, Some, Bool, true, false, ◌&&◌, slice_get, option_map}
 use Rattle.std.specs.Int.{cast_signed, w32, w64}
 use Rattle.jl_names.specs.Text.{plain}
 use Rattle.jl_pool.specs.declared.entry.Entry.{Entry}

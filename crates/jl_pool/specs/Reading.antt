@@ -1,5 +1,5 @@
 -- Reading a pool from left to right, with the first fault that is met (JVMS 4.1, 4.4).
-use Rattle.std.specs.Prelude.{◌≡◌, ℕ, ◌+◌, ◌-◌, List, [], ◌∷◌, length, take, drop, slice_get, Option, None, Some, Result, Ok, Err, Bool, true, false, not, nat_lt, ◌==◌, position, if◌then◌else◌}
+use Rattle.std.specs.Prelude.{ℕ, ◌+◌, ◌-◌, List, [], ◌∷◌, length, take, drop, slice_get, Option, None, Some, Result, Ok, Err, Bool, not, nat_lt, ◌==◌, position, if◌then◌else◌}
 use Rattle.jl_reading.specs.Reading.{◌>>=◌, number_at, each_at}
 use Rattle.jl_names.specs.declared.fault.TextFault.{TextFault}
 use Rattle.jl_names.specs.Text.{units_read}

@@ -1,5 +1,5 @@
 -- The spelling of a pool (JVMS 4.1, 4.4).
-use Rattle.std.specs.Prelude.{◌≡◌, ℕ, ◌<◌, ◌^◌, List, [], ◌∷◌, ◌++◌, length, Bool, true, false, not, ◌==◌, IsTrue, ⊤, min, ◌⊎◌}
+use Rattle.std.specs.Prelude.{◌≡◌, ℕ, ◌<◌, ◌^◌, List, [], ◌∷◌, ◌++◌, length, Bool, true, false, not, IsTrue, ⊤, ◌⊎◌}
 use Rattle.std.specs.List.{flat_map, AllByRecursion}
 use Rattle.jl_reading.specs.Reading.{Stands, two, four}
 use Rattle.byteorder.specs.Endian.{big_bytes}

@@ -1,5 +1,5 @@
 -- What of a path lies below a folder, and the entry that it begins with.
-use Rattle.std.proofs.Common.{◌≡◌, ◌≢◌, ℕ, ◌+◌, ◌<◌, suc, List, [], ◌∷◌, ◌++◌, length, drop, take, Option, None, Some, option_map, MatchOption, Bool, true, false, cond, ◌||◌, nat_eq, eqb, Bor, refl, sym, ap, ◌∙◌, subst, append_assoc, length-append, arith, rules, true≢false, ◌⊎◌, ⊎_elim, not}
+use Rattle.std.proofs.Common.{◌≡◌, ◌≢◌, ℕ, ◌+◌, ◌<◌, suc, List, [], ◌∷◌, ◌++◌, length, drop, Option, None, Some, option_map, MatchOption, Bool, true, false, cond, ◌||◌, nat_eq, eqb, Bor, refl, sym, ap, ◌∙◌, append_assoc, length-append, arith, true≢false, ⊎_elim, not}
 use Rattle.std.proofs.lemmas.Bool.{cases_Bool, eqb-true}
 use Rattle.std.proofs.lemmas.Bool.Decides.{Decides-eqb}
 use Rattle.std.proofs.lemmas.Slice.Eq.{starts_is}

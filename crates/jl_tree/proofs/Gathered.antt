@@ -1,5 +1,5 @@
 -- The names that are gathered of a folder are its entries.
-use Rattle.std.proofs.Common.{◌≡◌, ◌≢◌, ℕ, ◌+◌, ◌<◌, suc, zero, List, [], ◌∷◌, ◌++◌, map, length, drop, get_or, Option, None, Some, option_map, Bool, true, false, cond, not, ◌&&◌, nat_eq, Contains, refl, sym, ap, ◌∙◌, subst, append_assoc, length-append, arith, rules, true≢false, ◌⊎◌, inl, inr, ⊎_elim, if◌then◌else◌}
+use Rattle.std.proofs.Common.{◌≡◌, ◌≢◌, ℕ, ◌+◌, ◌<◌, suc, zero, List, [], ◌∷◌, ◌++◌, map, length, drop, get_or, Option, None, Some, option_map, Bool, true, false, nat_eq, Contains, refl, sym, ap, ◌∙◌, subst, append_assoc, length-append, arith, ◌⊎◌, inl, inr, ⊎_elim, if◌then◌else◌}
 use Rattle.std.proofs.lemmas.Bool.{cases_Bool, both_ways, and_parts, not-true}
 use Rattle.std.proofs.lemmas.Slice.Eq.{bytes_eq-Decides}
 use Rattle.std.specs.List.{list_all, IsDistinct, AllByRecursion}
@@ -8,7 +8,7 @@ use Rattle.std.specs.Cmp.Lexicographic.{pointwise}
 use Rattle.indexmap.specs.IndexMap.{insert_entry}
 use Rattle.jl_logic.specs.Lists.{AreDistinct}
 use Rattle.jl_tree.specs.declared.entry.Entry.{Entry}
-use Rattle.jl_tree.specs.Files.{File, first_part, entry_in, IsListing, Lists}
+use Rattle.jl_tree.specs.Files.{File, first_part, entry_in, Lists}
 use Rattle.jl_tree.specs.Memory.{is_folder_of, are_apart, is_tree, IsTree}
 use Rattle.jl_tree.specs.Listing.{below, entry_of, with_rest, names_from}
 use Rattle.jl_tree.proofs.Below.{begins_true, begins_from, entry_in_below, rest_of, longer}

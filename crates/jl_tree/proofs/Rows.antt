@@ -1,7 +1,5 @@
 -- Worked rows of the definitions.
-use Rattle.std.proofs.Common.{◌≡◌, ℕ, List, [], ◌∷◌, Option, None, Some, Result, Ok, Err, Bool, true, false, codes, map, refl}
-use Rattle.jl_tree.specs.declared.entry.Entry.{Entry}
-use Rattle.jl_tree.specs.declared.tree.TreeFault.{TreeFault}
+use Rattle.std.proofs.Common.{◌≡◌, ℕ, List, [], ◌∷◌, None, Some, Ok, Err, true, false, codes, map, refl}
 use Rattle.jl_tree.specs.declared.tree.TreeFault.TheVariants.{Failed, TooLong}
 use Rattle.jl_tree.specs.declared.sink.SinkFault.TheVariants.{Failed as SinkFailed}
 use Rattle.jl_tree.specs.Files.{File, entry_in, read_of}

@@ -1,6 +1,5 @@
 use Rattle.std.proofs.Common.{◌≡◌, List, None, not, sym, subst, ◌∙◌, arith, rules}
 use Rattle.std.specs.Prelude.{position}
-use Rattle.std.proofs.lemmas.Grind.{common_steps}
 use Rattle.jl_pool.specs.declared.entry.Entry.{Entry}
 use Rattle.jl_pool.specs.Pool.{refers_rightly}
 use Rattle.jl_pool.specs.Reading.{pool_at}

@@ -1,4 +1,4 @@
-use Rattle.std.proofs.Common.{◌≡◌, List, [], ◌∷◌, length, map, subst, sym, ap, refl, arith}
+use Rattle.std.proofs.Common.{◌≡◌, List, [], ◌∷◌, length, subst, sym, ap, refl, arith}
 use Rattle.std.proofs.lemmas.Bool.{both_ways}
 use Rattle.jl_tree.specs.Files.{IsListing}
 use Rattle.jl_tree.specs.Memory.{files_of}

@@ -1,4 +1,3 @@
-use Rattle.std.proofs.Common.{arith}
 use Rattle.jl_tree.proofs.Trees.{is_no_tree, is_still_tree}
 use Rattle.jl_tree.proofs.mem_tree.are_of_one_tree.Goals as goal
 

@@ -1,0 +1,207 @@
+use super::*;
+use jl_prim::{Declaration, Name};
+use std::alloc::Global;
+use std::test::*;
+
+/// Module `a`, which requires `java.base` with the mandated flag.
+fn smallest<'a>() -> &'a [u8] {
+    b"\xca\xfe\xba\xbe\x00\x00\x005\x00\x08\
+        \x01\x00\x0bmodule-info\
+        \x07\x00\x01\
+        \x01\x00\x06Module\
+        \x01\x00\x01a\
+        \x13\x00\x04\
+        \x01\x00\x09java.base\
+        \x13\x00\x06\
+        \x80\x00\x00\x02\x00\x00\x00\x00\x00\x00\x00\x00\
+        \x00\x01\x00\x03\x00\x00\x00\x16\
+        \x00\x05\x00\x00\x00\x00\
+        \x00\x01\x00\x07\x80\x00\x00\x00\
+        \x00\x00\x00\x00\x00\x00\x00\x00"
+}
+
+/// The file where other bytes stand in place of so many from a place on.
+fn edited(
+    alloc: Global,
+    file: &[u8],
+    at: usize,
+    removed: usize,
+    put: &[u8],
+) -> Result<Vec<u8>, Fail> {
+    let (front, rest) = file.split_at(at.min(file.len()));
+    let mut bytes = Vec::from_slice(alloc, front)?;
+    bytes.extend_from_slice(put)?;
+    bytes.extend_from_slice(&rest[removed.min(rest.len())..])?;
+    Ok(bytes)
+}
+
+/// The fault of a file as text, or `read`.
+fn fault(alloc: Global, file: &[u8]) -> Result<String, Fail> {
+    match read_info(alloc, file, &[]) {
+        Ok(_) => Ok(String::from_str(alloc, "read")?),
+        Err(fault) => Ok(format!(in alloc; "{fault:?}")?),
+    }
+}
+
+#[test]
+fn smallest_file(rt: HostRuntime) -> Result<(), Fail> {
+    let alloc = rt.alloc();
+    let found = [Name::from_text(alloc, "p/q")?];
+    let d = read_info(alloc, smallest(), &found)?;
+    assert_eq!(rt; d.name.as_str(), "a");
+    assert!(rt; !d.is_open);
+    assert!(rt; d.version.is_none());
+    assert_eq!(rt; d.required.len(), 1);
+    for entry in d.required.as_slice() {
+        assert_eq!(rt; entry.name.as_str(), "java.base");
+        assert!(rt; !entry.transitive && !entry.is_static);
+    }
+    assert_eq!(rt; d.exports.len() + d.opens.len(), 0);
+    assert_eq!(rt; d.uses.len() + d.provides.len(), 0);
+    assert_eq!(rt; d.packages.as_slice(), found.as_slice());
+    assert!(rt; d.main.is_none());
+    Ok(())
+}
+
+/// An edit of the smallest file (a place, how many bytes go, which come), and the declaration's name,
+/// version, whether it is open, and whether the required module is transitive and static.
+#[test]
+fn parts_of_declarations(rt: HostRuntime) -> Result<(), Fail> {
+    let alloc = rt.alloc();
+    let rows: [(usize, usize, &[u8], &str, &str, bool, bool, bool); 6] = [
+        (7, 1, b"\x36", "a", "", false, false, false),
+        (
+            37,
+            3,
+            b"\x00\x02\xc3\xbc",
+            "\u{fc}",
+            "",
+            false,
+            false,
+            false,
+        ),
+        (80, 2, b"\x00\x20", "a", "", true, false, false),
+        (82, 2, b"\x00\x04", "a", "a", false, false, false),
+        (88, 2, b"\x00\x20", "a", "", false, true, false),
+        (88, 2, b"\x00\x40", "a", "", false, false, true),
+    ];
+    for (at, removed, put, name, version, open, transitive, is_static) in rows {
+        let file = edited(alloc, smallest(), at, removed, put)?;
+        let d = read_info(alloc, &file, &[])?;
+        assert_eq!(rt; d.name.as_str(), name, "at {at}");
+        assert_eq!(rt; d.is_open, open, "at {at}");
+        match &d.version {
+            Some(text) => assert_eq!(rt; text.as_str(), version, "at {at}"),
+            None => assert_eq!(rt; version, "", "at {at}"),
+        }
+        for entry in d.required.as_slice() {
+            assert_eq!(rt; entry.transitive, transitive, "at {at}");
+            assert_eq!(rt; entry.is_static, is_static, "at {at}");
+        }
+    }
+    Ok(())
+}
+
+#[test]
+fn cut_files(rt: HostRuntime) -> Result<(), Fail> {
+    let alloc = rt.alloc();
+    let places = [
+        0, 4, 6, 8, 10, 11, 13, 24, 25, 27, 28, 30, 36, 37, 39, 40, 41, 43, 44, 46, 55, 56, 58, 60,
+        62, 64, 66, 68, 70, 72, 74, 78,
+    ];
+    let mut place = 0;
+    for n in 0..100 {
+        if places.contains(&n) {
+            place = n;
+        }
+        let want = format!(in alloc; "Short({place})")?;
+        let (file, _) = smallest().split_at(n);
+        assert_eq!(rt; fault(alloc, file)?.as_str(), want.as_str(), "of {n} bytes");
+    }
+    Ok(())
+}
+
+/// An edit of the smallest file, and the fault.
+#[test]
+fn faults_of_one_edit(rt: HostRuntime) -> Result<(), Fail> {
+    let alloc = rt.alloc();
+    let rows: [(usize, usize, &[u8], &str); 27] = [
+        (3, 1, b"\xbf", "BadMagic"),
+        (7, 1, b"\x34", "BadVersion"),
+        (7, 1, b"\x37", "BadVersion"),
+        (24, 1, b"\x02", "BadPool(2)"),
+        (40, 3, b"\x13\x00\x05", "BadPool(5)"),
+        (58, 2, b"\x80\x01", "NotModule(flags)"),
+        (61, 1, b"\x05", "NotModule(this)"),
+        (13, 1, b"n", "NotModule(this)"),
+        (63, 1, b"\x01", "NotModule(super)"),
+        (65, 1, b"\x01", "NotModule(interfaces)"),
+        (67, 1, b"\x01", "NotModule(fields)"),
+        (69, 1, b"\x01", "NotModule(methods)"),
+        (70, 30, b"\x00\x00", "NoModuleAttribute"),
+        (71, 1, b"\x00", "NoModuleAttribute"),
+        (72, 2, b"\x00\x05", "BadIndex(72)"),
+        (30, 1, b"N", "NotBuilt(72)"),
+        (74, 4, b"\xff\xff\xff\xff", "Short(78)"),
+        (77, 1, b"\x15", "Short(98)"),
+        (39, 1, b" ", "BadIndex(78)"),
+        (79, 1, b"\x04", "BadIndex(78)"),
+        (83, 1, b"\x05", "BadIndex(82)"),
+        (87, 1, b"\x06", "BadIndex(86)"),
+        (91, 1, b"\x07", "BadIndex(90)"),
+        (54, 1, b"f", "BaseRule"),
+        (93, 1, b"\x01", "NotBuilt(92)"),
+        (99, 1, b"\x01", "NotBuilt(98)"),
+        (100, 0, b"\x00", "Trailing"),
+    ];
+    for (at, removed, put, want) in rows {
+        let file = edited(alloc, smallest(), at, removed, put)?;
+        assert_eq!(rt; fault(alloc, &file)?.as_str(), want, "at {at}");
+    }
+    Ok(())
+}
+
+/// Two edits of the smallest file, the one further behind first, and the fault.
+#[test]
+fn faults_of_two_edits(rt: HostRuntime) -> Result<(), Fail> {
+    let alloc = rt.alloc();
+    let second =
+        b"\x00\x03\x00\x00\x00\x16\x00\x05\x00\x00\x00\x00\x00\x01\x00\x07\x80\x00\x00\x00\x00\x00\x00\x00\x00\x00\x00\x00";
+    let rows: [(usize, usize, &[u8], usize, usize, &[u8], &str); 5] = [
+        (
+            100,
+            0,
+            second,
+            71,
+            1,
+            b"\x02",
+            "Repeated(attributes, Module)",
+        ),
+        (
+            84,
+            8,
+            b"\x00\x02\x00\x07\x80\x00\x00\x00\x00\x07\x80\x00\x00\x00",
+            77,
+            1,
+            b"\x1c",
+            "Repeated(requires, java.base)",
+        ),
+        (
+            84,
+            8,
+            b"\x00\x02\x00\x07\x80\x00\x00\x00\x00\x05\x00\x00\x00\x00",
+            77,
+            1,
+            b"\x1c",
+            "read",
+        ),
+        (84, 8, b"\x00\x00", 77, 1, b"\x10", "BaseRule"),
+        (100, 0, b"\x00", 77, 1, b"\x17", "Trailing"),
+    ];
+    for (at, removed, put, at_front, removed_front, put_front, want) in rows {
+        let file = edited(alloc, smallest(), at, removed, put)?;
+        let file = edited(alloc, &file, at_front, removed_front, put_front)?;
+        assert_eq!(rt; fault(alloc, &file)?.as_str(), want, "{want}");
+    }
+    Ok(())
+}
