@@ -1,8 +1,8 @@
 -- Chains of places, and chains of modules: what a work list marks are the modules of the set, and what a module reads.
-use Rattle.std.proofs.Common.{◌≡◌, ◌⊎◌, ◌<◌, ◌≤◌, ℕ, zero, suc, List, [], ◌∷◌, ◌++◌, length, map, get_or, slice_get, inl, inr, ⊎_elim, refl, sym, ◌∙◌, ap, subst, Contains, All, Option, Some, None, Bool, true, false, true≢false, cond, IsTrue, filter_map, Less, arith}
+use Rattle.std.proofs.Common.{◌≡◌, ◌<◌, ℕ, zero, suc, List, [], ◌∷◌, ◌++◌, length, get_or, slice_get, inl, inr, ⊎_elim, refl, sym, ◌∙◌, ap, subst, Contains, All, Option, Some, None, Bool, true, false, cond, IsTrue, filter_map, Less}
 use Rattle.std.specs.List.{AllByRecursion}
 use Rattle.std.proofs.lemmas.List.{length-map}
-use Rattle.std.proofs.lemmas.Option.{slice_get_within, slice_get-get_or}
+use Rattle.std.proofs.lemmas.Option.{slice_get_within}
 use Rattle.std.proofs.lemmas.List.Elements.{All-map, All-from_recursion, All-push}
 use Rattle.jl_prim.specs.declared.declaration.Requires.{Requires}
 use Rattle.jl_prim.specs.declared.declaration.Observed.{Observed}
@@ -11,11 +11,11 @@ use Rattle.jl_logic.specs.Order.{RisesBy}
 use Rattle.jl_logic.proofs.Rising.{contains_head, contains_tail, contains_cases, contains_nothing, each_from_members}
 use Rattle.jl_config.specs.declared.places.Entries.{Entries}
 use Rattle.jl_config.specs.declared.places.Entries.TheVariants.{Every, Followed, PassedOn}
-use Rattle.jl_config.specs.Members.{name_of, find_named, located, is_followed, is_passed_on, Needs, Enumerated, IsMember}
+use Rattle.jl_config.specs.Members.{find_named, is_passed_on, Enumerated}
 use Rattle.jl_config.specs.Places.{place_named, takes, entry_place, entry_places, rows, root_places, kept, AreMembers, AreReadBy, ReadsAmong, ReadIn}
 use Rattle.jl_config.specs.Resolves.{module_cmp}
-use Rattle.jl_config.proofs.Lists.{into_filter_map, from_filter_map, contains_at, place_in, row_at, contains_left, contains_right, contains_either}
-use Rattle.jl_config.proofs.Finds.{place_shows, place_exists, located_alone, finds_itself}
+use Rattle.jl_config.proofs.Lists.{into_filter_map, from_filter_map, row_at, contains_left, contains_right, contains_either}
+use Rattle.jl_config.proofs.Finds.{place_shows, place_exists, located_alone}
 
 -- ---- entries and their places
 

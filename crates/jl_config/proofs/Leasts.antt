@@ -1,14 +1,10 @@
 -- The least of a list, one after the other, and what is missing.
-use Rattle.std.proofs.Common.{◌≡◌, ◌≢◌, ◌⊎◌, ◌<◌, ◌+◌, ℕ, zero, suc, List, [], ◌∷◌, ◌++◌, length, map, take, get_or, inl, inr, ⊎_elim, refl, sym, ◌∙◌, ap, ap₂, subst, Contains, Option, Some, None, Bool, true, false, true≢false, cond, not, ◌||◌, IsTrue, filter_map, flat_map, option_map, option_to_list, Ordering, Less, Equal, Greater, is_lt, append_assoc}
+use Rattle.std.proofs.Common.{◌≡◌, ◌≢◌, ◌<◌, ◌+◌, ℕ, List, [], ◌∷◌, ◌++◌, length, take, get_or, ⊎_elim, refl, sym, ◌∙◌, ap, ap₂, subst, Contains, Option, Some, None, Bool, true, false, cond, filter_map, flat_map, option_to_list, Ordering, Less, Equal, Greater, is_lt, append_assoc}
 use Rattle.std.specs.Ordering.{ordering_reverse}
 use Rattle.std.proofs.lemmas.List.{take_more, append-nil}
-use Rattle.std.proofs.lemmas.List.Elements.{filter_map-append}
 use Rattle.std.proofs.lemmas.Grind.{flat_map-append}
-use Rattle.std.specs.List.{cons_option}
-use Rattle.std.specs.Option.{is_some}
-use Rattle.jl_prim.specs.declared.declaration.Requires.{Requires}
 use Rattle.jl_prim.specs.declared.declaration.Observed.{Observed}
-use Rattle.jl_config.specs.Missing.{lesser, least_from, missing_of, missing_roots, root_missing, entry_missing, missing_entries, all_missing}
+use Rattle.jl_config.specs.Missing.{lesser, least_from, missing_of, missing_roots}
 use Rattle.jl_config.specs.Resolves.{missing_cmp}
 use Rattle.jl_logic.specs.Order.{IsLeast}
 use Rattle.jl_logic.proofs.Rising.{contains_head, contains_tail, contains_cases, contains_nothing, apart_from_total}

@@ -1,15 +1,14 @@
 -- The orders of names, of modules, of reads and of missing names.
-use Rattle.std.proofs.Common.{◌≡◌, ℕ, List, refl, sym, ◌∙◌, ap, subst, Option, Some, None, Ordering, Less, Equal, Greater}
+use Rattle.std.proofs.Common.{◌≡◌, ℕ, List, refl, ap, subst, Option, Some, None, Ordering, Less, Equal, Greater}
 use Rattle.std.specs.Option.{option_cmp}
-use Rattle.std.specs.Ordering.{ordering_then, then_cmp, on}
+use Rattle.std.specs.Ordering.{ordering_then}
 use Rattle.std.specs.Cmp.{IsTotalOrder}
 use Rattle.std.specs.Cmp.Lexicographic.{options_total}
 use Rattle.std.proofs.lemmas.Cmp.{on_total, then_total}
-use Rattle.jl_prim.specs.declared.declaration.Observed.{Observed}
 use Rattle.jl_config.specs.declared.configuration.Read.{Read}
 use Rattle.jl_logic.specs.Order.{name_cmp, optional_cmp}
 use Rattle.jl_logic.proofs.Rising.{apart_from_total}
-use Rattle.jl_config.specs.Resolves.{module_cmp, read_cmp, missing_cmp}
+use Rattle.jl_config.specs.Resolves.{read_cmp, missing_cmp}
 use Rattle.jl_config.proofs.Finds.{names_total, tied_same, same_name}
 
 optional_is : (a b : Option (List ℕ)) → option_cmp name_cmp a b ≡ optional_cmp a b

@@ -1,18 +1,18 @@
 -- The parts of a resolution, over one list of all that is observed, make the whole over two finders.
-use Rattle.std.proofs.Common.{◌≡◌, ◌≢◌, ◌⊎◌, ◌+◌, ℕ, zero, suc, List, [], ◌∷◌, ◌++◌, inl, inr, ⊎_elim, refl, sym, ◌∙◌, ap, ap₂, subst, Contains, Option, Some, None, Bool, true, false, cond, not, ◌||◌, IsTrue, filter_map, flat_map}
+use Rattle.std.proofs.Common.{◌≡◌, ◌+◌, ℕ, zero, suc, List, [], ◌∷◌, ◌++◌, inl, inr, ⊎_elim, refl, sym, ◌∙◌, ap, ap₂, subst, Contains, Option, Some, None, Bool, true, false, cond, not, ◌||◌, IsTrue, flat_map}
 use Rattle.std.specs.Option.{is_some}
 use Rattle.jl_prim.specs.declared.numbers.ConfigId.{ConfigId}
 use Rattle.jl_prim.specs.declared.declaration.Requires.{Requires}
 use Rattle.jl_prim.specs.declared.declaration.Observed.{Observed}
-use Rattle.jl_logic.specs.Order.{RisesBy, IsLeast}
+use Rattle.jl_logic.specs.Order.{IsLeast}
 use Rattle.jl_logic.proofs.Rising.{contains_head, contains_tail, contains_cases, contains_nothing}
 use Rattle.jl_config.specs.declared.configuration.Read.{Read}
 use Rattle.jl_config.specs.Graphs.{Graph}
-use Rattle.jl_config.specs.Members.{name_of, find_named, located, is_followed, is_passed_on, Needs, Enumerated, IsMember, IsMissing, Means, ReadsBy, Reads}
-use Rattle.jl_config.specs.Missing.{least_from, root_missing, entry_missing, missing_roots, missing_entries, missing_of, all_missing}
+use Rattle.jl_config.specs.Members.{name_of, find_named, located, is_followed, Enumerated, IsMember, IsMissing, Means, ReadsBy, Reads}
+use Rattle.jl_config.specs.Missing.{least_from, root_missing, entry_missing, missing_roots, missing_of, all_missing}
 use Rattle.jl_config.specs.Places.{IsUniverse, AreMembers, AreReads, ReadsAmong, ReadIn, place_named}
-use Rattle.jl_config.specs.Resolves.{IsGraphOf, IsResolved, module_cmp, missing_cmp, read_of}
-use Rattle.jl_config.proofs.Finds.{located_joined, located_alone, found_by_name, found_within, finds_itself, place_shows, placed_none, none_placed}
+use Rattle.jl_config.specs.Resolves.{IsGraphOf, IsResolved, missing_cmp}
+use Rattle.jl_config.proofs.Finds.{located_joined, located_alone, found_by_name, found_within, finds_itself, placed_none, none_placed}
 use Rattle.jl_config.proofs.Leasts.{least_of_list, least_of_none}
 use Rattle.jl_config.proofs.Lists.{into_filter_map, from_filter_map, contains_left, contains_right, contains_either}
 

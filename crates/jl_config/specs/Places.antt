@@ -1,5 +1,5 @@
 -- Modules by their places in one list: the words in which the parts of a resolution speak.
-use Rattle.std.specs.Prelude.{◌≡◌, ℕ, zero, suc, ◌+◌, ◌≤◌, List, [], ◌∷◌, ◌++◌, Option, None, Some, Result, Ok, Err, Bool, true, ◌&&◌, map, length, take, IsTrue, Contains, ◌⊎◌, if◌then◌else◌, slice_get, nat_eq}
+use Rattle.std.specs.Prelude.{◌≡◌, ℕ, zero, suc, ◌+◌, ◌≤◌, List, [], ◌∷◌, Option, None, Some, Result, Ok, Err, Bool, true, map, length, IsTrue, Contains, ◌⊎◌, if◌then◌else◌, slice_get, nat_eq}
 use Rattle.std.specs.List.{filter_map}
 use Rattle.std.specs.List.Sorted.{IsPartitionPoint}
 use Rattle.std.specs.Option.{option_map}
@@ -12,7 +12,7 @@ use Rattle.jl_logic.specs.Order.{name_cmp, RisesBy}
 use Rattle.jl_config.specs.declared.configuration.Read.{Read}
 use Rattle.jl_config.specs.declared.places.Entries.{Entries}
 use Rattle.jl_config.specs.declared.places.Entries.TheVariants.{Every, Followed, PassedOn}
-use Rattle.jl_config.specs.Members.{name_of, find_named, located, is_followed, is_passed_on, IsMember}
+use Rattle.jl_config.specs.Members.{name_of, find_named, is_followed, is_passed_on, IsMember}
 use Rattle.jl_config.specs.Resolves.{module_cmp, read_cmp, read_of}
 
 -- the place of the first module of a name

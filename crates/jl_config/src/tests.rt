@@ -90,20 +90,13 @@ fn graph_shown(alloc: Global, cf: &Configuration) -> Result<String, AllocError> 
 }
 
 fn fault_shown(alloc: Global, fault: &ResolveFault) -> Result<String, AllocError> {
-    let mut shown = String::new(alloc);
     match fault {
-        ResolveFault::NoMemory => shown.push_str("NoMemory")?,
-        ResolveFault::NotFound { name, by } => {
-            shown.push_str("NotFound ")?;
-            shown.push_str(name.as_str())?;
-            shown.push_str(" ")?;
-            match by {
-                None => shown.push_str("-")?,
-                Some(by) => shown.push_str(by.as_str())?,
-            }
-        }
+        ResolveFault::NoMemory => String::from_str(alloc, "NoMemory"),
+        ResolveFault::NotFound { name, by } => match by {
+            None => format!(in alloc; "NotFound {name} -"),
+            Some(by) => format!(in alloc; "NotFound {name} {by}"),
+        },
     }
-    Ok(shown)
 }
 
 fn resolved(alloc: Global, before: &str, after: &str, roots: &str) -> Result<String, Fail> {
@@ -128,36 +121,56 @@ fn resolved(alloc: Global, before: &str, after: &str, roots: &str) -> Result<Str
 }
 
 #[test]
-fn graphs_and_missing_names(rt: HostRuntime) -> Result<(), Fail> {
-    let table: [(&str, &str, &str); 20] = [
+fn what_is_passed_on(rt: HostRuntime) -> Result<(), Fail> {
+    let table: [(&str, &str); 6] = [
         (
             "a b java.base;b +c java.base;c java.base;java.base",
-            "a",
             "a: a b c java.base;b: b c java.base;c: c java.base;java.base: java.base;",
         ),
         (
             "a b java.base;b c java.base;c java.base;java.base",
-            "a",
             "a: a b java.base;b: b c java.base;c: c java.base;java.base: java.base;",
         ),
-        ("a b;b +c;c +d;d", "a", "a: a b c d;b: b c d;c: c d;d: d;"),
-        ("a b;b c;c +d;d", "a", "a: a b;b: b c d;c: c d;d: d;"),
+        ("a b;b +c;c +d;d", "a: a b c d;b: b c d;c: c d;d: d;"),
+        ("a b;b c;c +d;d", "a: a b;b: b c d;c: c d;d: d;"),
         (
-            "a ~d java.base;java.base",
+            "a b;b +java.base;java.base",
+            "a: a b;b: b java.base;java.base: java.base;",
+        ),
+        ("a b a;b a", "a: a b;b: a b;"),
+    ];
+    for (modules, want) in table {
+        let shown = resolved(rt.alloc(), modules, "", "a")?;
+        assert_eq!(rt; shown.as_str(), want, "{modules}");
+    }
+    Ok(())
+}
+
+#[test]
+fn static_entries(rt: HostRuntime) -> Result<(), Fail> {
+    let table: [(&str, &str, &str); 7] = [
+        ("a ~d b;b", "a", "a: a b;b: b;"),
+        ("a ~d b;b;d b", "a", "a: a b;b: b;"),
+        ("a ~d b;b;d b", "a d", "a: a b d;b: b;d: b d;"),
+        ("a ~d b;b", "a d", "NotFound d -"),
+        ("a b;b +~c;c", "a", "a: a b;b: b;"),
+        ("a b;b +~c;c", "c a", "a: a b c;b: b c;c: c;"),
+        (
+            "a ~java.base;java.base",
             "a",
             "a: a java.base;java.base: java.base;",
         ),
-        (
-            "a ~d java.base;d java.base;java.base",
-            "a",
-            "a: a java.base;java.base: java.base;",
-        ),
-        (
-            "a ~d java.base;d java.base;java.base",
-            "a d",
-            "a: a d java.base;d: d java.base;java.base: java.base;",
-        ),
-        ("a ~d java.base;java.base", "a d", "NotFound d -"),
+    ];
+    for (modules, roots, want) in table {
+        let shown = resolved(rt.alloc(), modules, "", roots)?;
+        assert_eq!(rt; shown.as_str(), want, "{modules}");
+    }
+    Ok(())
+}
+
+#[test]
+fn missing_names(rt: HostRuntime) -> Result<(), Fail> {
+    let table: [(&str, &str, &str); 7] = [
         (
             "a x java.base;b x java.base;java.base",
             "b a",
@@ -171,25 +184,8 @@ fn graphs_and_missing_names(rt: HostRuntime) -> Result<(), Fail> {
         ("a y x", "a", "NotFound x a"),
         ("a b;b z", "a", "NotFound z b"),
         ("b x", "b a", "NotFound a -"),
-        (
-            "a java.base;java.base",
-            "a a",
-            "a: a java.base;java.base: java.base;",
-        ),
-        ("a b;b +~c;c", "a", "a: a b;b: b;"),
-        ("a b;b +~c;c", "c a", "a: a b c;b: b c;c: c;"),
-        (
-            "a ~java.base;java.base",
-            "a",
-            "a: a java.base;java.base: java.base;",
-        ),
-        (
-            "a b;b +java.base;java.base",
-            "a",
-            "a: a b;b: b java.base;java.base: java.base;",
-        ),
-        ("a a", "a", "a: a;"),
-        ("b a;a b;c", "b", "a: a b;b: a b;"),
+        ("a x;b", "b", "b: b;"),
+        ("a", "a a", "a: a;"),
     ];
     for (modules, roots, want) in table {
         let shown = resolved(rt.alloc(), modules, "", roots)?;

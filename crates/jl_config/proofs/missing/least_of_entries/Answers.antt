@@ -1,4 +1,4 @@
-use Rattle.std.proofs.Common.{None, option_map}
+use Rattle.std.proofs.Common.{option_map}
 use Rattle.jl_config.specs.Missing.{fields, entry_missing}
 use Rattle.jl_config.proofs.Leasts.{least_step}
 use Rattle.jl_config.proofs.missing.least_of_entries.Goals as goal

@@ -1,4 +1,4 @@
-use Rattle.std.proofs.Common.{◌≡◌, ◌∙◌, ◌++◌, ◌∷◌, [], ap}
+use Rattle.std.proofs.Common.{◌∙◌, ◌++◌, ◌∷◌, [], ap}
 use Rattle.jl_config.specs.Places.{entry_places}
 use Rattle.jl_config.specs.declared.places.Entries.TheVariants.{Every, PassedOn}
 use Rattle.jl_config.proofs.Chains.{read_by_right, graph_given, starts_given, reader_within}

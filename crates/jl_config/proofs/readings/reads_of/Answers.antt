@@ -1,7 +1,6 @@
-use Rattle.std.proofs.Common.{◌≡◌, ◌∙◌, ◌++◌, ◌∷◌, [], ap, sym, subst, map, take, arith, slice_get, Some}
-use Rattle.std.proofs.lemmas.List.{take_more, take_all}
-use Rattle.std.proofs.lemmas.Option.{slice_get_read}
-use Rattle.jl_config.specs.Places.{AreReads, kept}
+use Rattle.std.proofs.Common.{◌∙◌, ◌++◌, ◌∷◌, [], ap, sym, map, take}
+use Rattle.std.proofs.lemmas.List.{take_more}
+use Rattle.jl_config.specs.Places.{kept}
 use Rattle.jl_config.specs.Resolves.{read_of}
 use Rattle.jl_config.proofs.Grown.{reads_none, reads_more, read_at, reads_all}
 use Rattle.jl_config.proofs.readings.reads_of.Goals as goal

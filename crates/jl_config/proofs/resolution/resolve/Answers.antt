@@ -1,8 +1,7 @@
-use Rattle.std.proofs.Common.{◌≡◌, ◌∙◌, ◌++◌, ◌+◌, ℕ, List, ap, ap₂, sym, subst, length, Some, None, option_map, Option}
+use Rattle.std.proofs.Common.{◌∙◌, ◌+◌, ap, ap₂, sym, subst, length, None, option_map}
 use Rattle.jl_config.specs.Graphs.{Graph}
 use Rattle.jl_config.specs.Missing.{fields, least_from, all_missing}
-use Rattle.jl_config.specs.Places.{IsUniverse, AreMembers, AreReads}
-use Rattle.jl_config.specs.Resolves.{IsResolved}
+use Rattle.jl_config.specs.Places.{AreMembers, AreReads}
 use Rattle.jl_config.proofs.Whole as whole
 use Rattle.jl_config.proofs.resolution.resolve.Goals as goal
 

@@ -1,9 +1,5 @@
-use Rattle.std.proofs.Common.{◌≡◌, ◌≤◌, List, length, insert, subst, sym, ap, arith, ◌∙◌, ap₂}
-use Rattle.std.specs.Ordering.{ordering_reverse}
-use Rattle.jl_logic.specs.Order.{RisesBy}
-use Rattle.jl_config.specs.Members.{name_of}
-use Rattle.jl_config.specs.Resolves.{module_cmp}
-use Rattle.jl_config.proofs.Finds.{not_added, added_rises, added_found, rises_added, finds_added}
+use Rattle.std.proofs.Common.{sym, arith}
+use Rattle.jl_config.proofs.Finds.{not_added, rises_added, finds_added}
 use Rattle.jl_config.proofs.universe.add.Goals as goal
 
 pub returns-in-Ok : goal.returns-in-Ok

@@ -1,5 +1,3 @@
-use Rattle.std.proofs.Common.{◌≡◌, ◌++◌, ◌∷◌, [], List, ℕ, take, ◌∙◌, sym, ap}
-use Rattle.jl_config.specs.Members.{find_named}
 use Rattle.jl_config.proofs.Finds.{found_step}
 use Rattle.jl_config.proofs.universe.with_all.Goals as goal
 
