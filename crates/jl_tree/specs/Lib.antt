@@ -1,2 +1,4 @@
 pub mod Files
 pub mod Bytes
+pub mod Memory
+pub mod Listing

@@ -4,10 +4,11 @@ ghost use Rattle.std.specs.Prelude.{◌≡◌, ◌≤◌, ℕ, List, Option, IfO
 ghost use Rattle.jl_logic.specs.Answers.{Gives};
 ghost use Rattle.jl_logic.specs.Counts.{Rose};
 ghost use Rattle.jl_tree.specs.Files.{File, Lists, read_of, told, IsNotLong, AsksFor};
+ghost use Rattle.jl_tree.specs.declared.tree.TreeFault.TheVariants as fault;
 
 use crate::entry::Entry;
-use jl_prim::Name;
-use std::alloc::Global;
+use jl_prim::{CopyEnd, Name, PushEnd};
+use std::alloc::{AllocError, AllocFailed, Global};
 use thiserror::Error;
 
 /// Why a tree did not answer.
@@ -22,6 +23,38 @@ pub enum TreeFault {
     /// There was no memory for the answer.
     #[error("out of memory")]
     NoMemory,
+}
+
+impl From<AllocError> for TreeFault {
+    ghost from_gives = { λ _ e. e ≡ fault.NoMemory };
+
+    fn from(_e: AllocError) -> TreeFault {
+        TreeFault::NoMemory
+    }
+}
+
+impl<T: Drop> From<AllocFailed<T>> for TreeFault {
+    ghost from_gives = { λ _ e. e ≡ fault.NoMemory };
+
+    fn from(_e: AllocFailed<T>) -> TreeFault {
+        TreeFault::NoMemory
+    }
+}
+
+impl From<CopyEnd> for TreeFault {
+    ghost from_gives = { λ _ e. e ≡ fault.NoMemory };
+
+    fn from(_e: CopyEnd) -> TreeFault {
+        TreeFault::NoMemory
+    }
+}
+
+impl From<PushEnd> for TreeFault {
+    ghost from_gives = { λ _ e. e ≡ fault.NoMemory };
+
+    fn from(_e: PushEnd) -> TreeFault {
+        TreeFault::NoMemory
+    }
 }
 
 /// A tree of files, named by paths with `/`. A path is taken as it is written.

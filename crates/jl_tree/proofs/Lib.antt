@@ -1,0 +1,4 @@
+pub mod Below
+pub mod Gathered
+pub mod Trees
+mod Rows
