@@ -37,7 +37,6 @@ same_candidates files path cs ds p q = same_rising (λ c d. name_cmp c.name d.na
 same_found : (files : List File) (path : List ℕ) (f g : Result (List Observed) FindFault) → IsFound files path f → IsFound files path g → f ≡ g
 same_found files path f g p q = p.2 ∙ ap (λ cs. found_or (each_declared path cs)) (same_candidates files path p.0 q.0 p.1 q.1) ∙ sym q.2
 
-
 same_refused : (r : Refusal) (e f : LaunchEnd) (ls ms : List (List ℕ)) → IsRefused r e ls → IsRefused r f ms → (e ≡ f) × (ls ≡ ms)
 same_refused r e f ls ms p q = (p.0 ∙ sym q.0, p.1 ∙ sym q.1)
 

@@ -28,7 +28,7 @@ goes_on line rest next old mid new before after later count p t h e = record {
   written = p.written ++ take count rest;
   splits = p.splits ∙ ap (λ r. p.written ++ r) (sym (take-append-drop count rest)) ∙ sym (append_assoc p.written (take count rest) (drop count rest)) ∙ ap (λ r. (p.written ++ take count rest) ++ r) (sym e);
   taken = grown_more old mid new p.written (take count rest) p.taken t;
-  counts = omega (arith, p.counts)
+  counts = omega (arith, p.counts);
 }
 
 module _ {X : Type 0} (f : X → List ℕ) where
@@ -61,5 +61,5 @@ module _ {X : Type 0} (f : X → List ℕ) where
       let others : List ℕ = concat (map f (drop (i + 1) xs)) in
       let up_to : concat (map f (take (i + 1) xs)) ≡ done ++ (w.0 ++ w.1.0) = text_more xs i d h ∙ ap (λ z. done ++ z) (sym e ∙ w.1.1) in
       let whole : concat (map f xs) ≡ (done ++ w.0) ++ (w.1.0 ++ others) =
-        text_rest xs (i + 1) ∙ ap (λ z. z ++ others) (up_to ∙ sym (append_assoc done w.0 w.1.0)) ∙ append_assoc (done ++ w.0) w.1.0 others in
+      text_rest xs (i + 1) ∙ ap (λ z. z ++ others) (up_to ∙ sym (append_assoc done w.0 w.1.0)) ∙ append_assoc (done ++ w.0) w.1.0 others in
       (done ++ w.0, (w.1.0 ++ others, whole), grown_more old mid new done w.0 m w.2)

@@ -81,7 +81,7 @@ pub fn launch<T: Tree, S: Sink>(
     ensures complete { T.faults tree.new ≡ T.faults tree.old → T.faults tree.old < last_count
         → S.faults out.new ≡ S.faults out.old → S.faults out.old < last_count
         → IfSome (T.files tree.old) (λ files. IfSome (S.taken out.old) (λ before.
-            Completes (map string_bytes words.now) files before result (S.taken out.new))) }
+        Completes (map string_bytes words.now) files before result (S.taken out.new))) }
 {
     match decide(alloc, words, tree) {
         Ok(outcome) => write_outcome(outcome, out),

@@ -5,18 +5,17 @@ mod end;
 mod finder;
 mod launching;
 mod law;
+#[cfg(test)]
+mod tests;
 mod text;
 mod words;
 mod writing;
 
-#[cfg(test)]
-mod tests;
-
 use end::status_of;
-use launching::launch;
 use jl_tree::{FolderTree, StdoutSink};
-use std::env;
+use launching::launch;
 use std::alloc::Global;
+use std::env;
 use std::io::{self, ErrorKind};
 use std::process::ExitCode;
 use std::rt::{Env, Runtime};

@@ -7,5 +7,5 @@ use Rattle.jlayers.proofs.writing.write_lines.Given as goal
 abbrev pub invariant-loop-line : goal.invariant-loop-line
 invariant-loop-line g l = record {
   taken : g.S.Sink.taken l.out ≡ grown (g.S.Sink.taken l.fn.out) (concat (map string_bytes (take l.line-index l.lines)));
-  counts : g.S.Sink.faults l.fn.out ≤ g.S.Sink.faults l.out
+  counts : g.S.Sink.faults l.fn.out ≤ g.S.Sink.faults l.out;
 }
