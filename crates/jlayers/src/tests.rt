@@ -248,6 +248,7 @@ fn faults_of_the_outside(rt: HostRuntime) -> Result<(), Fail> {
 
 // ---- a sink that takes one byte at a time
 
+#[derive(Drop)]
 struct Slow {
     sink: MemSink,
 }
@@ -277,7 +278,9 @@ fn a_slow_sink_takes_the_same(rt: HostRuntime) -> Result<(), Fail> {
     let words = words_in(alloc, "resolve --module-path m a")?;
     let status = status_of(&launch(alloc, words.as_slice(), &mut tree, &mut slow));
     assert_eq!(rt; status, 3);
-    let Slow { sink } = slow;
-    assert_eq!(rt; sink.bytes(), b"refused: Resolve NotFound a -\n".as_slice());
+    assert_eq!(rt;
+        slow.sink.bytes(),
+        b"refused: Resolve NotFound a -\n".as_slice()
+    );
     Ok(())
 }
