@@ -30,6 +30,6 @@ words_of (a ∷ []) = None
 words_of (a ∷ b ∷ []) = None
 words_of (a ∷ b ∷ c ∷ []) = None
 words_of (command ∷ option ∷ path ∷ root ∷ roots) =
-    if is_text command (codes "resolve") && (is_text option (codes "--module-path") && (is_one_folder path && list_all is_root (root ∷ roots)))
-    then Some (record { path = path; roots = root ∷ roots })
-    else None
+  if is_text command (codes "resolve") && (is_text option (codes "--module-path") && (is_one_folder path && list_all is_root (root ∷ roots)))
+  then Some (record { path = path; roots = root ∷ roots })
+  else None
