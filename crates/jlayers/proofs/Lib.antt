@@ -1,1 +1,4 @@
 pub mod Always
+pub mod Once
+pub mod Progress
+pub mod Written

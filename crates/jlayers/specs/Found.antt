@@ -45,9 +45,9 @@ observed_or place (Err f) = Err (finds.Info (declaration_in place) f)
 -- what the file of a folder declares, or its fault
 abbrev pub declared_in : List ℕ → Candidate → Result Observed FindFault
 declared_in path c =
-  if nat_lt most_bytes (length c.bytes)
-  then Err (finds.TooLarge (declaration_in (folder_in path c.name)) (length c.bytes))
-  else observed_or (folder_in path c.name) (info_of c.bytes [])
+    if nat_lt most_bytes (length c.bytes)
+    then Err (finds.TooLarge (declaration_in (folder_in path c.name)) (length c.bytes))
+    else observed_or (folder_in path c.name) (info_of c.bytes [])
 
 abbrev pub with_others : Observed → Result (List Observed) FindFault → Result (List Observed) FindFault
 with_others o (Ok os) = Ok (o ∷ os)

@@ -13,21 +13,30 @@ use Rattle.jlayers.specs.declared.end.Refusal.{Refusal}
 use Rattle.jlayers.specs.declared.end.Refusal.TheVariants.{Find, Resolve}
 use Rattle.jlayers.specs.declared.end.WordFault.TheVariants.{NotBuilt}
 use Rattle.jlayers.specs.declared.end.LaunchEnd.{LaunchEnd}
-use Rattle.jlayers.specs.declared.end.LaunchEnd.TheVariants.{Done, Words, Refused}
+use Rattle.jlayers.specs.declared.end.LaunchEnd.TheVariants.{Done, Words, Refused, ReadFault, SinkFault, NoMemory}
 use Rattle.jlayers.specs.declared.words.Asked.{Asked}
 use Rattle.jlayers.specs.Statuses.{IsStop}
 use Rattle.jlayers.specs.Command.{words_of}
 use Rattle.jlayers.specs.Found.{IsFound}
+use Rattle.jlayers.specs.Writing.{grown}
 use Rattle.jlayers.specs.Text.{words_line, refusal_line, graph_lines}
 
 -- the built-in java.base, which declares nothing yet
 abbrev pub built_in_base : Observed
 built_in_base = record {
   declaration = record {
-    name = codes "java.base"; is_open = false; version = None; required = []; exports = [];
-    opens = []; uses = []; provides = []; packages = []; main = None
+    name = codes "java.base";
+    is_open = false;
+    version = None;
+    required = [];
+    exports = [];
+    opens = [];
+    uses = [];
+    provides = [];
+    packages = [];
+    main = None;
   };
-  place = []
+  place = [];
 }
 
 -- the end and the lines of a refused command
@@ -44,17 +53,19 @@ IsPrinted (Err resolves.NoMemory) end lines = ⊥
 abbrev pub IsResolved : List (List ℕ) → Result (List Observed) FindFault → LaunchEnd → List (List ℕ) → Type 0
 IsResolved roots (Err f) end lines = IsRefused (Find f) end lines
 IsResolved roots (Ok found) end lines =
-  (answer : Result Graph ResolveFault) × Resolves 0 (built_in_base ∷ []) (record { 0 = 0 } ∷ []) found roots answer × IsPrinted answer end lines
+    (answer : Result Graph ResolveFault) × Resolves 0 (built_in_base ∷ []) (record { 0 = 0 } ∷ []) found roots answer × IsPrinted answer end lines
 
 -- what is launched by words that ask
 abbrev pub IsAnswer : List File → Asked → LaunchEnd → List (List ℕ) → Type 0
 IsAnswer files asked end lines = (found : Result (List Observed) FindFault) × IsFound files asked.path found × IsResolved asked.roots found end lines
 
+-- The end and the lines that the words have over these files.
+abbrev pub IsLaunched : List (List ℕ) → List File → LaunchEnd → List (List ℕ) → Type 0
+IsLaunched words files end lines = MatchOption (words_of words) ((end ≡ Words NotBuilt) × (lines ≡ words_line ∷ [])) (λ asked. IsAnswer files asked end lines)
+
 -- The end and the text that the words have over these files.
 abbrev pub Launched : List (List ℕ) → List File → LaunchEnd → List ℕ → Type 0
-Launched words files end text =
-  (lines : List (List ℕ)) × (text ≡ concat lines)
-  × MatchOption (words_of words) ((end ≡ Words NotBuilt) × (lines ≡ words_line ∷ [])) (λ asked. IsAnswer files asked end lines)
+Launched words files end text = (lines : List (List ℕ)) × (text ≡ concat lines) × IsLaunched words files end lines
 
 -- the sink has grown by this
 abbrev pub Grew : List ℕ → List ℕ → Option (List ℕ) → Type 0
@@ -63,10 +74,31 @@ Grew before text after = after ≡ Some (before ++ text)
 -- the end and the text, or a stop with a front of the text
 abbrev pub Wrote : LaunchEnd → List ℕ → List ℕ → LaunchEnd → Option (List ℕ) → Type 0
 Wrote end text before answered after =
-  ((answered ≡ end) × Grew before text after) ⊎ (IsStop answered × ((front : List ℕ) × IsFront front text × Grew before front after))
+    ((answered ≡ end) × Grew before text after) ⊎ (IsStop answered × ((front : List ℕ) × IsFront front text × Grew before front after))
 
 -- What a launch did: it wrote what is launched, or it was stopped before it wrote anything.
 abbrev pub Ends : List (List ℕ) → List File → List ℕ → LaunchEnd → Option (List ℕ) → Type 0
 Ends words files before answered after =
-  ((end : LaunchEnd) × (text : List ℕ) × Launched words files end text × Wrote end text before answered after)
-  ⊎ (IsStop answered × Grew before [] after)
+    ((end : LaunchEnd) × (text : List ℕ) × Launched words files end text × Wrote end text before answered after)
+    ⊎ (IsStop answered × Grew before [] after)
+
+-- What a launch did where nothing failed: it wrote the whole text, or there was no memory and it wrote nothing.
+abbrev pub Completes : List (List ℕ) → List File → List ℕ → LaunchEnd → Option (List ℕ) → Type 0
+Completes words files before answered after =
+    ((text : List ℕ) × Launched words files answered text × Grew before text after)
+    ⊎ ((answered ≡ NoMemory) × Grew before [] after)
+
+-- an end that no stop is
+abbrev pub IsFinal : LaunchEnd → Type 0
+IsFinal Done = Unit {0}
+IsFinal (Words f) = Unit {0}
+IsFinal (Refused r) = Unit {0}
+IsFinal ReadFault = ⊥
+IsFinal SinkFault = ⊥
+IsFinal NoMemory = ⊥
+
+-- What the writing of the lines of an end comes to: the end and all lines, or a failed sink and a front of them.
+abbrev pub Comes : LaunchEnd → List (List ℕ) → Option (List ℕ) → LaunchEnd → Option (List ℕ) → Type 0
+Comes end lines old answered new =
+    ((answered ≡ end) × (new ≡ grown old (concat lines)))
+    ⊎ ((answered ≡ SinkFault) × ((front : List ℕ) × IsFront front (concat lines) × (new ≡ grown old front)))

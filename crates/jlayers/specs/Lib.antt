@@ -3,3 +3,5 @@ pub mod Command
 pub mod Found
 pub mod Text
 pub mod Launched
+pub mod Writing
+pub mod Unique

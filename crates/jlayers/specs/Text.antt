@@ -75,6 +75,10 @@ read_line r = line (codes "  reads " ++ r.name)
 abbrev pub other_reads : List Read → Observed → List Read
 other_reads reads o = filter (λ r. is_text r.reader o.declaration.name && not (is_text r.name o.declaration.name)) reads
 
+-- a module, and under it what it reads
+abbrev pub module_lines : List Read → Observed → List (List ℕ)
+module_lines reads o = module_line o ∷ map read_line (other_reads reads o)
+
 -- each module in order, and under it what it reads
 abbrev pub graph_lines : Graph → List (List ℕ)
-graph_lines g = flat_map (λ o. module_line o ∷ map read_line (other_reads g.reads o)) g.modules
+graph_lines g = flat_map (module_lines g.reads) g.modules

@@ -1,17 +1,71 @@
 //! The top call.
 
-ghost use Rattle.std.specs.Prelude.{◌≡◌, map, IfSome, IsErrOf};
+ghost use Rattle.std.specs.Prelude.{◌≡◌, ◌≤◌, ◌<◌, ◌∷◌, [], map, IfSome, IfOk, IsErrOf};
 ghost use Rattle.std.specs.String.{string_bytes};
-ghost use Rattle.jl_logic.specs.Counts.{Rose};
-ghost use Rattle.jlayers.specs.Launched.{Ends};
+ghost use Rattle.jl_logic.specs.Counts.{Rose, last_count};
+ghost use Rattle.jlayers.specs.Command.{words_of};
+ghost use Rattle.jlayers.specs.Text as lines;
+ghost use Rattle.jlayers.specs.Launched.{Ends, Completes, IsLaunched, IsAnswer, IsResolved, IsPrinted, IsRefused, IsFinal, Comes, built_in_base};
 
-use crate::end::LaunchEnd;
+use crate::end::{FindFault, LaunchEnd, Refusal, WordFault};
+use crate::finder::find_in;
+use crate::text::{graph_lines, refusal_line, words_line};
+use crate::words::{Asked, asked_by};
+use crate::writing::write_lines;
+use jl_config::{Configuration, ResolveFault, resolve};
+use jl_prim::{ConfigId, CopyEnd, Declaration, Found, Items, Name, Observed};
 use jl_tree::{Sink, Tree};
-use std::alloc::Global;
+use std::alloc::{AllocError, AllocFailed, Global};
+
+/// What a command comes to: how it ends, and the lines that it prints.
+#[derive(Drop)]
+struct Outcome {
+    end: LaunchEnd,
+    lines: Vec<String>,
+}
+
+/// Why it was not decided what a command comes to.
+#[derive(Clone, Copy, Drop)]
+enum Stop {
+    /// The tree failed. Its count of faults rose.
+    ReadFault,
+    /// There was no memory.
+    NoMemory,
+}
+
+impl From<AllocError> for Stop {
+    ghost use Rattle.jlayers.specs.declared.launching.Stop.TheVariants.{NoMemory};
+
+    ghost from_gives = { λ _ e. e ≡ NoMemory };
+
+    fn from(_e: AllocError) -> Stop {
+        Stop::NoMemory
+    }
+}
+
+impl<T: Drop> From<AllocFailed<T>> for Stop {
+    ghost use Rattle.jlayers.specs.declared.launching.Stop.TheVariants.{NoMemory};
+
+    ghost from_gives = { λ _ e. e ≡ NoMemory };
+
+    fn from(_e: AllocFailed<T>) -> Stop {
+        Stop::NoMemory
+    }
+}
+
+impl From<CopyEnd> for Stop {
+    ghost use Rattle.jlayers.specs.declared.launching.Stop.TheVariants.{NoMemory};
+
+    ghost from_gives = { λ _ e. e ≡ NoMemory };
+
+    fn from(_e: CopyEnd) -> Stop {
+        Stop::NoMemory
+    }
+}
 
 /// Runs the command that the words give, over a tree of files, and writes what it prints to a sink.
 pub fn launch<T: Tree, S: Sink>(
-    _alloc: Global,
+    alloc: Global,
     words: &[String],
     tree: &mut T,
     out: &mut S,
@@ -21,6 +75,157 @@ pub fn launch<T: Tree, S: Sink>(
         Ends (map string_bytes words.now) files before result (S.taken out.new))) }
     ensures read_fault { result ≡ LaunchEnd.ReadFault → Rose (T.faults tree.old) (T.faults tree.new) }
     ensures sink_fault { result ≡ LaunchEnd.SinkFault → Rose (S.faults out.old) (S.faults out.new) }
+    // Where the words are refused the tree is not asked.
+    ensures unasked { words_of (map string_bytes words.now) ≡ None → (T.asked tree.new ≡ T.asked tree.old) × (T.faults tree.new ≡ T.faults tree.old) }
+    // Where nothing failed, the end and the whole text are what is launched, or there was no memory and no text.
+    ensures complete { T.faults tree.new ≡ T.faults tree.old → T.faults tree.old < last_count
+        → S.faults out.new ≡ S.faults out.old → S.faults out.old < last_count
+        → IfSome (T.files tree.old) (λ files. IfSome (S.taken out.old) (λ before.
+        Completes (map string_bytes words.now) files before result (S.taken out.new))) }
 {
-    LaunchEnd::NoMemory
+    match decide(alloc, words, tree) {
+        Ok(outcome) => write_outcome(outcome, out),
+        Err(Stop::ReadFault) => LaunchEnd::ReadFault,
+        Err(Stop::NoMemory) => LaunchEnd::NoMemory,
+    }
+}
+
+/// Writes what a command prints, and answers how it ends.
+fn write_outcome<S: Sink>(outcome: Outcome, out: &mut S) -> LaunchEnd
+    requires { IsFinal outcome.end }
+    ensures comes { Comes outcome.end (map string_bytes outcome.lines.items) (S.taken out.old) result (S.taken out.new) }
+    ensures never_read { result ≡ LaunchEnd.ReadFault → ⊥ }
+    ensures never_memory { result ≡ LaunchEnd.NoMemory → ⊥ }
+    ensures counts { S.faults out.old ≤ S.faults out.new }
+    ensures sink_fault { result ≡ LaunchEnd.SinkFault → Rose (S.faults out.old) (S.faults out.new) }
+{
+    match write_lines(out, outcome.lines.as_slice()) {
+        Ok(()) => outcome.end,
+        Err(_) => LaunchEnd::SinkFault,
+    }
+}
+
+/// What the words come to over a tree.
+fn decide<T: Tree>(alloc: Global, words: &[String], tree: &mut T) -> Result<Outcome, Stop>
+    ensures decided { IfSome (T.files tree.old) (λ files. IfOk result (λ o. IsLaunched (map string_bytes words.now) files o.end (map string_bytes o.lines.items))) }
+    ensures ended { IfOk result (λ o. IsFinal o.end) }
+    ensures read_fault { IsErrOf result Stop.ReadFault → Rose (T.faults tree.old) (T.faults tree.new) }
+    ensures unasked { words_of (map string_bytes words.now) ≡ None → (T.asked tree.new ≡ T.asked tree.old) × (T.faults tree.new ≡ T.faults tree.old) }
+{
+    match asked_by(alloc, words)? {
+        Some(asked) => answer(alloc, &asked, tree),
+        None => refuse_words(alloc),
+    }
+}
+
+fn refuse_words(alloc: Global) -> Result<Outcome, Stop>
+    ensures refused { IfOk result (λ o. (o.end ≡ LaunchEnd.Words WordFault.NotBuilt) × (map string_bytes o.lines.items ≡ lines.words_line ∷ [])) }
+    ensures ended { IfOk result (λ o. IsFinal o.end) }
+    ensures memory { IsErrOf result Stop.ReadFault → ⊥ }
+{
+    let line = words_line(alloc)?;
+    Ok(Outcome {
+        end: LaunchEnd::Words(WordFault::NotBuilt),
+        lines: one_line(alloc, line)?,
+    })
+}
+
+fn refuse(alloc: Global, refusal: Refusal) -> Result<Outcome, Stop>
+    ensures refused { IfOk result (λ o. IsRefused refusal o.end (map string_bytes o.lines.items)) }
+    ensures ended { IfOk result (λ o. IsFinal o.end) }
+    ensures memory { IsErrOf result Stop.ReadFault → ⊥ }
+{
+    let line = refusal_line(alloc, &refusal)?;
+    Ok(Outcome {
+        lines: one_line(alloc, line)?,
+        end: LaunchEnd::Refused(refusal),
+    })
+}
+
+fn one_line(alloc: Global, line: String) -> Result<Vec<String>, AllocError>
+    ensures { IfOk result (λ all. all.items ≡ line ∷ []) }
+{
+    let mut lines = Vec::new(alloc);
+    lines.push(line)?;
+    Ok(lines)
+}
+
+/// What `resolve` comes to over a tree.
+fn answer<T: Tree>(alloc: Global, asked: &Asked, tree: &mut T) -> Result<Outcome, Stop>
+    ensures answered { IfSome (T.files tree.old) (λ files. IfOk result (λ o. IsAnswer files asked.now o.end (map string_bytes o.lines.items))) }
+    ensures ended { IfOk result (λ o. IsFinal o.end) }
+    ensures read_fault { IsErrOf result Stop.ReadFault → Rose (T.faults tree.old) (T.faults tree.new) }
+{
+    match find_in(alloc, tree, &asked.path) {
+        Ok(modules) => answer_over(alloc, modules, asked.roots.as_slice()),
+        Err(FindFault::Info(place, fault)) => {
+            refuse(alloc, Refusal::Find(FindFault::Info(place, fault)))
+        }
+        Err(FindFault::TooLarge(place, length)) => {
+            refuse(alloc, Refusal::Find(FindFault::TooLarge(place, length)))
+        }
+        Err(FindFault::ReadFault) => Err(Stop::ReadFault),
+        Err(FindFault::NoMemory) => Err(Stop::NoMemory),
+    }
+}
+
+/// What `resolve` comes to over the modules that were found.
+fn answer_over(alloc: Global, modules: Items<Observed>, roots: &[Name]) -> Result<Outcome, Stop>
+    ensures resolved { IfOk result (λ o. IsResolved roots.now (Ok modules) o.end (map string_bytes o.lines.items)) }
+    ensures ended { IfOk result (λ o. IsFinal o.end) }
+    ensures memory { IsErrOf result Stop.ReadFault → ⊥ }
+{
+    let before = base_alone(alloc)?;
+    let after = Found { modules };
+    match resolve(alloc, &[], &before, &[ConfigId(0)], &after, roots, false) {
+        Ok(graph) => print_graph(alloc, &graph),
+        Err(ResolveFault::NotFound { name, by }) => {
+            refuse(alloc, Refusal::Resolve(ResolveFault::NotFound { name, by }))
+        }
+        Err(ResolveFault::NoMemory) => Err(Stop::NoMemory),
+    }
+}
+
+fn print_graph(alloc: Global, graph: &Configuration) -> Result<Outcome, Stop>
+    ensures printed { IfOk result (λ o. IsPrinted (Ok graph.now) o.end (map string_bytes o.lines.items)) }
+    ensures ended { IfOk result (λ o. IsFinal o.end) }
+    ensures memory { IsErrOf result Stop.ReadFault → ⊥ }
+{
+    Ok(Outcome {
+        end: LaunchEnd::Done,
+        lines: graph_lines(alloc, graph)?,
+    })
+}
+
+/// The built-in `java.base` alone.
+fn base_alone(alloc: Global) -> Result<Found, Stop>
+    ensures found { IfOk result (λ f. f.modules ≡ built_in_base ∷ []) }
+    ensures memory { IsErrOf result Stop.ReadFault → ⊥ }
+{
+    let mut modules = Vec::new(alloc);
+    modules.push(base(alloc)?)?;
+    Ok(Found {
+        modules: Items::from_vec(modules),
+    })
+}
+
+/// The built-in `java.base`, which declares nothing yet.
+fn base(alloc: Global) -> Result<Observed, CopyEnd>
+    ensures { IfOk result (λ o. o ≡ built_in_base) }
+{
+    Ok(Observed {
+        declaration: Declaration {
+            name: Name::from_text(alloc, "java.base")?,
+            is_open: false,
+            version: None,
+            required: Items::new(alloc),
+            exports: Items::new(alloc),
+            opens: Items::new(alloc),
+            uses: Items::new(alloc),
+            provides: Items::new(alloc),
+            packages: Items::new(alloc),
+            main: None,
+        },
+        place: Name::from_text(alloc, "")?,
+    })
 }

@@ -1,0 +1,10 @@
+-- That a launch has one end and one text.
+use Rattle.std.specs.Prelude.{◌≡◌, ℕ, List}
+use Rattle.jl_tree.specs.Files.{File}
+use Rattle.jlayers.specs.declared.end.LaunchEnd.{LaunchEnd}
+use Rattle.jlayers.specs.Launched.{Launched}
+
+-- Two ends and texts of the same words over the same files are the same.
+abbrev pub LaunchesOnce : Type 0
+LaunchesOnce = (words : List (List ℕ)) (files : List File) (e f : LaunchEnd) (s t : List ℕ)
+    → Launched words files e s → Launched words files f t → (e ≡ f) × (s ≡ t)
