@@ -1,5 +1,6 @@
 pub mod Statuses
 pub mod Command
 pub mod Found
+pub mod Finding
 pub mod Text
 pub mod Launched
