@@ -1,6 +1,6 @@
 -- A search for modules, on plain lists.
-use Rattle.std.proofs.Common.{◌≡◌, ◌≢◌, ℕ, ◌+◌, ◌-◌, ◌<◌, ◌≤◌, zero, suc, List, [], ◌∷◌, ◌++◌, length, get_or, drop, take, map, filter, Option, None, Some, Result, Ok, Err, Bool, true, false, cond, not, ◌&&◌, ◌||◌, nat_eq, nat_lt, eqb, codes, Contains, IsTrue, MatchOption, IfSome, refl, sym, ap, ◌∙◌, subst, append_assoc, append-nil, length-append, ◌==◌, arith, rules, true≢false, ◌⊎◌, inl, inr, ⊎_elim, if◌then◌else◌, IsPermutation, IsSorted, Ordering, Less, Equal, Greater}
-use Rattle.std.proofs.lemmas.Bool.{cases_Bool, eqb-true, not-true}
+use Rattle.std.proofs.Common.{◌≡◌, ℕ, ◌+◌, ◌<◌, zero, suc, List, [], ◌∷◌, ◌++◌, length, get_or, drop, take, map, filter, Option, None, Some, Result, Ok, Err, Bool, true, false, cond, not, ◌||◌, nat_eq, nat_lt, codes, Contains, IsTrue, MatchOption, IfSome, refl, sym, ap, ◌∙◌, subst, append_assoc, append-nil, length-append, ◌==◌, arith, true≢false, ◌⊎◌, inl, inr, ⊎_elim, IsSorted, Ordering, Less, Equal, Greater}
+use Rattle.std.proofs.lemmas.Bool.{not-true}
 use Rattle.std.proofs.lemmas.Bool.Decides.{Decides-eqb}
 use Rattle.std.proofs.lemmas.Slice.Eq.{starts_is, bytes_eq-Decides}
 use Rattle.std.proofs.lemmas.List.Prefix.{front_rest}
@@ -13,15 +13,15 @@ use Rattle.std.specs.Ordering.{is_lt, is_eq, ordering_reverse}
 use Rattle.indexmap.specs.IndexSet.{insert_key}
 use Rattle.jl_modinfo.specs.Reading.{info_of}
 use Rattle.std.specs.Cmp.Lexicographic.{pointwise, nat_list_cmp_total, nat_list_eq_equiv, texts_ties}
-use Rattle.jl_logic.specs.Answers.{Gives, Fails}
+use Rattle.jl_logic.specs.Answers.{Fails}
 use Rattle.jl_logic.specs.Lists.{AreDistinct}
 use Rattle.jl_logic.specs.Order.{name_cmp, RisesBy}
 use Rattle.jl_prim.specs.declared.declaration.Observed.{Observed}
 use Rattle.jl_tree.specs.declared.entry.Entry.{Entry}
-use Rattle.jl_tree.specs.Files.{File, file_at, first_part, entry_in, IsListing, Lists}
+use Rattle.jl_tree.specs.Files.{File, file_at, first_part, entry_in, Lists}
 use Rattle.jlayers.specs.declared.end.FindFault.{FindFault}
 use Rattle.jlayers.specs.declared.end.FindFault.TheVariants as finds
-use Rattle.jlayers.specs.Found.{Candidate, AreCandidates, is_part, folder_in, declaration_in, most_bytes, declared_in, observed_or, with_others, and_others, each_declared, has_name_of, first_of_each, found_or, IsFound, Finds}
+use Rattle.jlayers.specs.Found.{Candidate, AreCandidates, is_part, folder_in, declaration_in, most_bytes, declared_in, observed_or, with_others, and_others, each_declared, has_name_of, first_of_each, found_or, Finds}
 use Rattle.jlayers.specs.Finding.{told, TellsNothing, AreFolders, AreSorted, folders_of, content_of, as_some, module_of, module_in, with_candidate, candidates, declared_by, behind}
 
 abbrev same_name : List ℕ → List ℕ → Bool
@@ -228,7 +228,7 @@ folder_more : (files : List File) (path : List ℕ) (names : List (List ℕ)) (i
 folder_more files path names i n before whole r l at m h =
     let d : drop i names ≡ n ∷ drop (i + 1) names = drop_more names i n l ∙ ap (λ x. x ∷ drop (i + 1) names) (sym at) in
     let s : declared_by files path (drop i names) ≡ joined r (declared_by files path (drop (i + 1) names)) =
-        ap (declared_by files path) d ∙ one_folder path n (file_at files (declaration_in (folder_in path n))) (candidates files path (drop (i + 1) names)) ∙ ap (λ x. joined x (declared_by files path (drop (i + 1) names))) m in
+    ap (declared_by files path) d ∙ one_folder path n (file_at files (declaration_in (folder_in path n))) (candidates files path (drop (i + 1) names)) ∙ ap (λ x. joined x (declared_by files path (drop (i + 1) names))) m in
     ap (behind before) (sym s) ∙ h
 
 folder_kept : (files : List File) (path : List ℕ) (names : List (List ℕ)) (i : ℕ) (n : List ℕ) (before : List Observed) (whole : Result (List Observed) FindFault)
@@ -369,9 +369,9 @@ listed_folders files path entries names h s = record {
   rise = rise_from names s.order (IsDistinct-IsPermutation same_name (λ a b. nat_list_eq_equiv.symm a b) (folders_of entries) names s.same (distinct_names _ (distinct_folders entries h.once)));
   all = λ f name c e. Contains-permutation (folders_of entries) names name s.same (entry_folder entries _ (h.all f _ c e) refl);
   parts = λ name c.
-    let r = folder_entry entries name (Contains-permutation names (folders_of entries) name (IsPermutation-sym _ _ s.same) c) in
-    let w = h.only r.0 r.1 in
-    subst (λ m. IsTrue (is_part m)) r.2 (entry_part path w.0.path r.0 w.2);
+      let r = folder_entry entries name (Contains-permutation names (folders_of entries) name (IsPermutation-sym _ _ s.same) c) in
+      let w = h.only r.0 r.1 in
+      subst (λ m. IsTrue (is_part m)) r.2 (entry_part path w.0.path r.0 w.2);
 }
 
 -- ---- the candidates
@@ -441,7 +441,7 @@ candidate_in : (files : List File) (path : List ℕ) (names : List (List ℕ)) (
 candidate_in files path [] c h e = contains_nothing c.name h
 candidate_in files path (n ∷ ns) c h e = ⊎_elim
     (λ q. subst (λ b. Contains (with_candidate n b (candidates files path ns)) c) (sym (ap (declaration_of files path) q ∙ e))
-      (subst (λ m. Contains (record { name = m; bytes = c.bytes } ∷ candidates files path ns) c) (sym q) (contains_head c (candidates files path ns))))
+    (subst (λ m. Contains (record { name = m; bytes = c.bytes } ∷ candidates files path ns) c) (sym q) (contains_head c (candidates files path ns))))
     (λ k. by (declaration_of files path n) (candidate_in files path ns c k e)) (contains_cases n c.name ns h)
   where
     by : (b : Option (List ℕ)) → Contains (candidates files path ns) c → Contains (with_candidate n b (candidates files path ns)) c
@@ -461,8 +461,8 @@ are_candidates files path names h = record {
   rise = candidates_rise files path names h.rise;
   only = λ c m. let r = candidate_from files path names c m in (h.parts c.name r.0, r.1);
   all = λ c p e.
-    let w = file_there files (declaration_in (folder_in path c.name)) c.bytes e in
-    candidate_in files path names c (h.all w.0 c.name w.1 (entry_of_file path c.name w.0.path p w.2)) e;
+      let w = file_there files (declaration_in (folder_in path c.name)) c.bytes e in
+      candidate_in files path names c (h.all w.0 c.name w.1 (entry_of_file path c.name w.0.path p w.2)) e;
 }
 
 -- ---- what is found

@@ -6,7 +6,7 @@ use Rattle.jl_tree.specs.declared.entry.Entry.{Entry}
 use Rattle.jl_tree.specs.Files.{File, file_at, entry_in}
 use Rattle.jlayers.specs.declared.end.FindFault.{FindFault}
 use Rattle.jlayers.specs.declared.end.FindFault.TheVariants as finds
-use Rattle.jlayers.specs.Found.{Candidate, is_part, folder_in, declaration_in, most_bytes, declared_in, with_others, each_declared}
+use Rattle.jlayers.specs.Found.{Candidate, is_part, folder_in, declaration_in, most_bytes, declared_in, each_declared}
 
 -- what an error tells: which file is wrong, and how
 abbrev pub told : FindFault → Option FindFault

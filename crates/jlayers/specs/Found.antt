@@ -1,5 +1,5 @@
 -- The modules in the folders of a folder, by the flat list of files.
-use Rattle.std.specs.Prelude.{◌≡◌, ℕ, List, [], ◌∷◌, ◌++◌, length, Option, None, Some, Result, Ok, Err, Bool, not, ◌==◌, nat_eq, nat_lt, codes, filter, Contains, IsTrue, if◌then◌else◌}
+use Rattle.std.specs.Prelude.{◌≡◌, ℕ, List, [], ◌∷◌, ◌++◌, length, Some, Result, Ok, Err, Bool, not, ◌==◌, nat_eq, nat_lt, codes, filter, Contains, IsTrue, if◌then◌else◌}
 use Rattle.std.specs.List.{list_any}
 use Rattle.std.specs.Cmp.Lexicographic.{pointwise}
 use Rattle.jl_logic.specs.Order.{name_cmp, RisesBy}
@@ -45,9 +45,9 @@ observed_or place (Err f) = Err (finds.Info (declaration_in place) f)
 -- what the file of a folder declares, or its fault
 abbrev pub declared_in : List ℕ → Candidate → Result Observed FindFault
 declared_in path c =
-  if nat_lt most_bytes (length c.bytes)
-  then Err (finds.TooLarge (declaration_in (folder_in path c.name)) (length c.bytes))
-  else observed_or (folder_in path c.name) (info_of c.bytes [])
+    if nat_lt most_bytes (length c.bytes)
+    then Err (finds.TooLarge (declaration_in (folder_in path c.name)) (length c.bytes))
+    else observed_or (folder_in path c.name) (info_of c.bytes [])
 
 abbrev pub with_others : Observed → Result (List Observed) FindFault → Result (List Observed) FindFault
 with_others o (Ok os) = Ok (o ∷ os)

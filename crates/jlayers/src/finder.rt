@@ -167,12 +167,7 @@ fn content_at<T: Tree>(
 }
 
 /// What a declaration file with these bytes declares for the module at a place.
-fn declared_in(
-    alloc: Global,
-    place: Name,
-    file: Name,
-    bytes: &[u8],
-) -> Result<Observed, FindFault>
+fn declared_in(alloc: Global, place: Name, file: Name, bytes: &[u8]) -> Result<Observed, FindFault>
     requires { file ≡ declaration_in place }
     ensures gives { Gives told (λ o. o) result (observed_or place (info_of bytes.now [])) }
     ensures no_read_fault { IsErrOf result FindFault.ReadFault → ⊥ }

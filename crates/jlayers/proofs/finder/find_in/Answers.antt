@@ -1,4 +1,4 @@
-use Rattle.std.proofs.Common.{◌≡◌, ◌∙◌, sym, ap}
+use Rattle.std.proofs.Common.{◌∙◌}
 use Rattle.std.proofs.lemmas.Result.{err_from_is_err_and}
 use Rattle.jlayers.proofs.Finding.{told_fault, told_modules}
 use Rattle.jlayers.proofs.finder.find_in.Goals as goal

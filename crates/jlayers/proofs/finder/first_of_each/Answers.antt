@@ -1,4 +1,4 @@
-use Rattle.std.proofs.Common.{◌≡◌, ◌∙◌, sym, ap, map}
+use Rattle.std.proofs.Common.{◌∙◌, sym, ap, map}
 use Rattle.std.proofs.lemmas.Bool.{not-true, not-false}
 use Rattle.jlayers.proofs.Finding.{kept_more, kept_same}
 use Rattle.jlayers.proofs.finder.first_of_each.Goals as goal

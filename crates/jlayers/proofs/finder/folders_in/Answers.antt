@@ -1,4 +1,4 @@
-use Rattle.std.proofs.Common.{◌≡◌, ◌∙◌, sym, ap, Some, option_map}
+use Rattle.std.proofs.Common.{ap, option_map}
 use Rattle.jlayers.proofs.Finding.{told_folders}
 use Rattle.jlayers.proofs.finder.folders_in.Goals as goal
 

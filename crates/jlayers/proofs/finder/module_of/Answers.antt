@@ -1,4 +1,4 @@
-use Rattle.std.proofs.Common.{◌≡◌, ◌∙◌, sym, ap, Some, option_map}
+use Rattle.std.proofs.Common.{◌∙◌, sym, ap, Some, option_map}
 use Rattle.std.proofs.lemmas.Result.{err_from_is_err_and}
 use Rattle.jlayers.specs.Found.{folder_in, declaration_in}
 use Rattle.jlayers.proofs.Finding.{module_fails, module_absent, module_read, module_wrong}
