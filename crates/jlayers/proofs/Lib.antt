@@ -1,2 +1,3 @@
 pub mod Wording
 pub mod Finding
+pub mod FindingRows
