@@ -1,4 +1,7 @@
 pub mod Always
+pub mod Finding
+pub mod FindingRows
 pub mod Once
 pub mod Progress
+pub mod Wording
 pub mod Written

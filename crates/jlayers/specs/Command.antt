@@ -23,13 +23,17 @@ begins_with_dash (b ∷ bs) = b == 45
 abbrev pub is_root : List ℕ → Bool
 is_root word = names_a_module word && not (begins_with_dash word)
 
+-- at least one word, and each a root
+abbrev pub are_roots : List (List ℕ) → Bool
+are_roots [] = false
+are_roots (word ∷ words) = list_all is_root (word ∷ words)
+
+abbrev pub is_taken : List ℕ → List ℕ → List ℕ → List (List ℕ) → Bool
+is_taken command option path roots = is_text command (codes "resolve") && (is_text option (codes "--module-path") && (is_one_folder path && are_roots roots))
+
 -- what the words ask, or None where they are not taken
 abbrev pub words_of : List (List ℕ) → Option Asked
 words_of [] = None
 words_of (a ∷ []) = None
 words_of (a ∷ b ∷ []) = None
-words_of (a ∷ b ∷ c ∷ []) = None
-words_of (command ∷ option ∷ path ∷ root ∷ roots) =
-  if is_text command (codes "resolve") && (is_text option (codes "--module-path") && (is_one_folder path && list_all is_root (root ∷ roots)))
-  then Some (record { path = path; roots = root ∷ roots })
-  else None
+words_of (command ∷ option ∷ path ∷ roots) = if is_taken command option path roots then Some (record { path = path; roots = roots }) else None

@@ -1,5 +1,5 @@
 -- The modules in the folders of a folder, by the flat list of files.
-use Rattle.std.specs.Prelude.{◌≡◌, ℕ, List, [], ◌∷◌, ◌++◌, length, Option, None, Some, Result, Ok, Err, Bool, not, ◌==◌, nat_eq, nat_lt, codes, filter, Contains, IsTrue, if◌then◌else◌}
+use Rattle.std.specs.Prelude.{◌≡◌, ℕ, List, [], ◌∷◌, ◌++◌, length, Some, Result, Ok, Err, Bool, not, ◌==◌, nat_eq, nat_lt, codes, filter, Contains, IsTrue, if◌then◌else◌}
 use Rattle.std.specs.List.{list_any}
 use Rattle.std.specs.Cmp.Lexicographic.{pointwise}
 use Rattle.jl_logic.specs.Order.{name_cmp, RisesBy}
