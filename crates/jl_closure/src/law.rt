@@ -7,5 +7,4 @@ ghost use Rattle.jl_closure.specs.Reached.{AreMarksOf};
 pub fn marks_exist()
     ensures { (next : List (List ℕ)) (starts : List ℕ) → All (λ row. All (λ p. p < length next) row) next → All (λ p. p < length next) starts
         → (marks : List Bool) × AreMarksOf next starts marks }
-{
-}
+{}

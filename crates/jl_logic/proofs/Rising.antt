@@ -49,10 +49,10 @@ module _ {X : Type 0} (cmp : X → X → Ordering) where
   within_rest apart x y xs ys e up h z c =
       ⊎_elim
       (λ f.
-        let less : cmp x z ≡ Less = each_of_member (λ w. cmp x w ≡ Less) xs z up.0 c in
-        let same : x ≡ z = e ∙ f in
-        let again : cmp x x ≡ Less = subst (λ w. cmp x w ≡ Less) (sym same) less in
-        absurd (apart x x again again))
+      let less : cmp x z ≡ Less = each_of_member (λ w. cmp x w ≡ Less) xs z up.0 c in
+      let same : x ≡ z = e ∙ f in
+      let again : cmp x x ≡ Less = subst (λ w. cmp x w ≡ Less) (sym same) less in
+      absurd (apart x x again again))
       (λ k. k)
       (contains_cases y z ys (h z (contains_tail x z xs c)))
 
@@ -63,8 +63,8 @@ module _ {X : Type 0} (cmp : X → X → Ordering) where
   same_rising apart (x ∷ xs) [] up vp h k = contains_nothing x (h x (contains_head x xs))
   same_rising apart (x ∷ xs) (y ∷ ys) up vp h k =
       let e : x ≡ y =
-          ⊎_elim (λ e. sym e) (λ a. ⊎_elim (λ e. e) (λ b. absurd (apart x y (each_of_member (λ w. cmp x w ≡ Less) xs y up.0 b) (each_of_member (λ w. cmp y w ≡ Less) ys x vp.0 a))) (contains_cases x y xs (k y (contains_head y ys))))
-          (contains_cases y x ys (h x (contains_head x xs))) in
+      ⊎_elim (λ e. sym e) (λ a. ⊎_elim (λ e. e) (λ b. absurd (apart x y (each_of_member (λ w. cmp x w ≡ Less) xs y up.0 b) (each_of_member (λ w. cmp y w ≡ Less) ys x vp.0 a))) (contains_cases x y xs (k y (contains_head y ys))))
+      (contains_cases y x ys (h x (contains_head x xs))) in
       let rest : xs ≡ ys = same_rising apart xs ys up.1 vp.1 (within_rest apart x y xs ys e up h) (within_rest apart y x ys xs (sym e) vp k) in
       cc
 

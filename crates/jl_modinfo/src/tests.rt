@@ -116,7 +116,11 @@ fn cut_files(rt: HostRuntime) -> Result<(), Fail> {
         }
         let want = format!(in alloc; "Short({place})")?;
         let file = edited(alloc, smallest(), n, 100, &[])?;
-        assert_eq!(rt; fault(alloc, &file)?.as_str(), want.as_str(), "of {n} bytes");
+        assert_eq!(rt;
+            fault(alloc, &file)?.as_str(),
+            want.as_str(),
+            "of {n} bytes"
+        );
     }
     Ok(())
 }
