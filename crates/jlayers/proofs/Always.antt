@@ -4,6 +4,7 @@ use Rattle.std.specs.List.{AllByRecursion, concat}
 use Rattle.std.specs.Ordering.{ordering_reverse}
 use Rattle.std.specs.Cmp.Lexicographic.{pointwise}
 use Rattle.std.proofs.lemmas.List.{take_at, drop_at}
+use Rattle.std.specs.Prelude.{MatchOption}
 use Rattle.jl_logic.specs.Order.{name_cmp, RisesBy}
 use Rattle.jl_logic.proofs.Rising.{contains_head, contains_tail, contains_cases, contains_nothing}
 use Rattle.jl_prim.specs.declared.declaration.Observed.{Observed}
@@ -14,7 +15,7 @@ use Rattle.jl_config.specs.Graphs.{Graph}
 use Rattle.jl_config.specs.Resolves.{Resolves}
 use Rattle.jl_config.proofs.Finds.{names_total, same_name, name_itself, less_back}
 use Rattle.jl_config.proofs.Orders.{names_exact}
-use Rattle.jl_config.proofs.Always.{resolves_always}
+use Rattle.jl_config.specs.Always.{ResolvesAlways}
 use Rattle.jlayers.specs.declared.end.FindFault.{FindFault}
 use Rattle.jlayers.specs.declared.end.Refusal.TheVariants.{Find, Resolve}
 use Rattle.jlayers.specs.declared.end.WordFault.TheVariants.{NotBuilt}
@@ -40,7 +41,7 @@ middle_of path name =
     let p : List ℕ = declaration_in (folder_in path name) in
     let front : List ℕ = path ++ 47 ∷ [] in
     let regrouped : p ≡ front ++ (name ++ ending) =
-        append_assoc path (47 ∷ name) ending ∙ sym (append_assoc path (47 ∷ []) (name ++ ending)) in
+    append_assoc path (47 ∷ name) ending ∙ sym (append_assoc path (47 ∷ []) (name ++ ending)) in
     let long : length front ≡ length path + 1 = length-append path (47 ∷ []) in
     let rest : drop (length path + 1) p ≡ name ++ ending = ap (drop (length path + 1)) regrouped ∙ drop_at front (name ++ ending) (length path + 1) long in
     let whole : length p ≡ length path + 1 + (length name + length ending) = ap length regrouped ∙ length-append front (name ++ ending) ∙ omega (arith, long, length-append name ending) in
@@ -134,20 +135,21 @@ module _ (files : List File) (path : List ℕ) where
 
   skipped : (f : File) (fs : List File) (cs : List Candidate) → Covers fs cs → ((c : Candidate) → IsCandidate c → f.path ≡ declaration_in (folder_in path c.name) → ⊥) → Covers (f ∷ fs) cs
   skipped f fs cs k none = record {
-      rises = k.rises;
-      only = k.only;
-      all = λ g c h p e. ⊎_elim (λ same. absurd (none c p (ap (λ (x : File). x.path) same ∙ e))) (λ m. k.all g c m p e) (contains_cases f g fs h);
-    }
+    rises = k.rises;
+    only = k.only;
+    all = λ g c h p e. ⊎_elim (λ same. absurd (none c p (ap (λ (x : File). x.path) same ∙ e))) (λ m. k.all g c m p e) (contains_cases f g fs h);
+  }
 
   added : (f : File) (fs : List File) (cs : List Candidate) (d : Candidate) → Covers fs cs → IsCandidate d → ((c : Candidate) → IsCandidate c → f.path ≡ declaration_in (folder_in path c.name) → c.name ≡ d.name) → Covers (f ∷ fs) (put d cs)
   added f fs cs d k is named = record {
-      rises = put_rises d cs k.rises;
-      only = λ c h. right c h;
-      all = λ g c h p e. ⊎_elim (λ same. here c p (ap (λ (x : File). x.path) same ∙ e)) (λ m. put_stays d cs c (k.all g c m p e)) (contains_cases f g fs h);
-    }
+    rises = put_rises d cs k.rises;
+    only = λ c h. right c h;
+    all = λ g c h p e. ⊎_elim (λ same. here c p (ap (λ (x : File). x.path) same ∙ e)) (λ m. put_stays d cs c (k.all g c m p e)) (contains_cases f g fs h);
+  }
     where
       right : (c : Candidate) → Contains (put d cs) c → IsCandidate c
       right c h = ⊎_elim (λ e. subst IsCandidate e is) (λ m. k.only c m) (put_only d cs c h)
+
       here : (c : Candidate) → IsCandidate c → f.path ≡ declaration_in (folder_in path c.name) → Contains (put d cs) c
       here c p e =
           let there = put_named d cs in
@@ -159,42 +161,81 @@ module _ (files : List File) (path : List ℕ) where
   name_is f c e = sym (ap (middle path) e ∙ middle_of path c.name)
 
   one_file : (f : File) (fs : List File) (cs : List Candidate) → Covers fs cs → (ds : List Candidate) × Covers (f ∷ fs) ds
-  one_file f fs cs k = by (is_part n) refl (file_at files (declaration_in (folder_in path n))) refl
+  one_file f fs cs k = by (middle path f.path) (λ c g. name_is f c g) (is_part (middle path f.path)) refl (file_at files (declaration_in (folder_in path (middle path f.path)))) refl
     where
-      abbrev n : List ℕ
-      n = middle path f.path
-      by : (part : Bool) → is_part n ≡ part → (bytes : Option (List ℕ)) → file_at files (declaration_in (folder_in path n)) ≡ bytes → (ds : List Candidate) × Covers (f ∷ fs) ds
-      by true t (Some bytes) e =
+      by : (n : List ℕ) → ((c : Candidate) → f.path ≡ declaration_in (folder_in path c.name) → c.name ≡ n) → (part : Bool) → is_part n ≡ part → (bytes : Option (List ℕ)) → file_at files (declaration_in (folder_in path n)) ≡ bytes
+          → (ds : List Candidate) × Covers (f ∷ fs) ds
+      by n named true t (Some bytes) e =
           let d : Candidate = record { name = n; bytes = bytes } in
-          let is : IsCandidate d = (sym t, e) in
-          (put d cs, added f fs cs d k is (λ c p g. name_is f c g))
-      by true t None e = (cs, skipped f fs cs k (λ c p g.
-          let gone : file_at files (declaration_in (folder_in path n)) ≡ Some c.bytes = ap (λ (m : List ℕ). file_at files (declaration_in (folder_in path m))) (sym (name_is f c g)) ∙ p.1 in
-          let clash : None ≡ Some c.bytes = sym e ∙ gone in
-          absurd cc))
-      by false t bytes e = (cs, skipped f fs cs k (λ c p g.
-          let part : is_part n ≡ true = ap is_part (sym (name_is f c g)) ∙ sym p.0 in
-          let clash : false ≡ true = sym t ∙ part in
-          absurd cc))
+          let is : IsCandidate d = (t, e) in
+          (put d cs, added f fs cs d k is (λ c p g. named c g))
+      by n named true t None e = (
+        cs,
+        skipped f fs cs k (λ c p g.
+            let gone : file_at files (declaration_in (folder_in path n)) ≡ Some c.bytes = ap (λ (m : List ℕ). file_at files (declaration_in (folder_in path m))) (sym (named c g)) ∙ p.1 in
+            let clash : None ≡ Some c.bytes = sym e ∙ gone in
+            absurd cc),
+      )
+      by n named false t bytes e = (
+        cs,
+        skipped f fs cs k (λ c p g.
+            let part : is_part n ≡ true = ap is_part (sym (named c g)) ∙ p.0 in
+            let clash : false ≡ true = sym t ∙ part in
+            absurd cc),
+      )
 
   each_file : (fs : List File) → (cs : List Candidate) × Covers fs cs
   each_file [] = ([], record { rises = tt; only = λ c h. contains_nothing c h; all = λ f c h p e. contains_nothing f h })
   each_file (f ∷ fs) = let rest = each_file fs in one_file f fs rest.0 rest.1
 
   -- a path that has bytes is one of the files
+  file_by : (f : File) (fs : List File) (p bytes : List ℕ) (b : Bool) → pointwise nat_eq f.path p ≡ b → cond b (Some f.bytes) (file_at fs p) ≡ Some bytes
+      → (file_at fs p ≡ Some bytes → (g : File) × Contains fs g × (g.path ≡ p)) → (g : File) × Contains (f ∷ fs) g × (g.path ≡ p)
+  file_by f fs p bytes true t k more = (f, contains_head f fs, same_name f.path p t)
+  file_by f fs p bytes false t k more = let rest = more k in (rest.0, contains_tail f rest.0 fs rest.1, rest.2)
+
   file_there : (fs : List File) (p bytes : List ℕ) → file_at fs p ≡ Some bytes → (f : File) × Contains fs f × (f.path ≡ p)
   file_there [] p bytes e = absurd cc
-  file_there (f ∷ fs) p bytes e = by (pointwise nat_eq f.path p) refl e
-    where
-      by : (b : Bool) → pointwise nat_eq f.path p ≡ b → cond b (Some f.bytes) (file_at fs p) ≡ Some bytes → (g : File) × Contains (f ∷ fs) g × (g.path ≡ p)
-      by true t k = (f, contains_head f fs, same_name f.path p t)
-      by false t k = let rest = file_there fs p bytes k in (rest.0, contains_tail f rest.0 fs rest.1, rest.2)
+  file_there (f ∷ fs) p bytes e = file_by f fs p bytes (pointwise nat_eq f.path p) refl e (λ k. file_there fs p bytes k)
 
   pub candidates_exist : (cs : List Candidate) × AreCandidates files path cs
   candidates_exist =
-      let all = each_file files in
-      (all.0, record {
-        rise = all.1.rises;
-        only = all.1.only;
-        all = λ c part there. let f = file_there files (declaration_in (folder_in path c.name)) c.bytes there in all.1.all f.0 c f.1 (part, there) f.2;
-      })
+      let all = each_file files in (
+        all.0,
+        record {
+          rise = all.1.rises;
+          only = all.1.only;
+          all = λ c part there. let f = file_there files (declaration_in (folder_in path c.name)) c.bytes there in all.1.all f.0 c f.1 (part, there) f.2;
+        },
+      )
+
+-- ---- the end and the text
+
+module _ (resolves_always : ResolvesAlways) where
+  answer_exists : (files : List File) (asked : Asked) → (end : LaunchEnd) × (lines : List (List ℕ)) × IsAnswer files asked end lines
+  answer_exists files asked =
+      let cs = candidates_exist files asked.path in
+      let found : Result (List Observed) FindFault = found_or (each_declared asked.path cs.0) in
+      let is : IsFound files asked.path found = (cs.0, cs.1, refl) in
+      by found is
+    where
+      printed : (r : Result Graph ResolveFault) → (r ≢ Err resolves.NoMemory) → (end : LaunchEnd) × (lines : List (List ℕ)) × IsPrinted r end lines
+      printed (Ok g) told = (Done, graph_lines g, (refl, refl))
+      printed (Err (resolves.NotFound name by)) told = (Refused (Resolve (resolves.NotFound name by)), refusal_line (Resolve (resolves.NotFound name by)) ∷ [], (refl, refl))
+      printed (Err resolves.NoMemory) told = absurd (told refl)
+
+      by : (found : Result (List Observed) FindFault) → IsFound files asked.path found → (end : LaunchEnd) × (lines : List (List ℕ)) × IsAnswer files asked end lines
+      by (Err f) is = (Refused (Find f), refusal_line (Find f) ∷ [], (Err f, is, (refl, refl)))
+      by (Ok os) is =
+          let r = resolves_always 0 (built_in_base ∷ []) (record { 0 = 0 } ∷ []) os asked.roots in
+          let p = printed r.0 r.2 in
+          (p.0, p.1, (Ok os, is, (r.0, r.1, p.2)))
+
+  lines_exist : (files : List File) (asked : Option Asked) → (end : LaunchEnd) × (lines : List (List ℕ)) × MatchOption asked ((end ≡ Words NotBuilt) × (lines ≡ words_line ∷ [])) (λ a. IsAnswer files a end lines)
+  lines_exist files None = (Words NotBuilt, words_line ∷ [], (refl, refl))
+  lines_exist files (Some asked) = answer_exists files asked
+
+  pub launched_always : (words : List (List ℕ)) (files : List File) → (end : LaunchEnd) × (text : List ℕ) × Launched words files end text
+  launched_always words files =
+      let l = lines_exist files (words_of words) in
+      (l.0, concat l.1, (l.1, refl, l.2))

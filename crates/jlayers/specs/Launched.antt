@@ -76,11 +76,9 @@ abbrev pub Wrote : LaunchEnd → List ℕ → List ℕ → LaunchEnd → Option 
 Wrote end text before answered after =
     ((answered ≡ end) × Grew before text after) ⊎ (IsStop answered × ((front : List ℕ) × IsFront front text × Grew before front after))
 
--- What a launch did: it wrote what is launched, or it was stopped before it wrote anything.
+-- What a launch did: there is an end and a text of it that are launched, and it wrote them, or it was stopped with a front of the text.
 abbrev pub Ends : List (List ℕ) → List File → List ℕ → LaunchEnd → Option (List ℕ) → Type 0
-Ends words files before answered after =
-    ((end : LaunchEnd) × (text : List ℕ) × Launched words files end text × Wrote end text before answered after)
-    ⊎ (IsStop answered × Grew before [] after)
+Ends words files before answered after = (end : LaunchEnd) × (text : List ℕ) × Launched words files end text × Wrote end text before answered after
 
 -- What a launch did where nothing failed: it wrote the whole text, or there was no memory and it wrote nothing.
 abbrev pub Completes : List (List ℕ) → List File → List ℕ → LaunchEnd → Option (List ℕ) → Type 0

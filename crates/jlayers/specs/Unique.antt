@@ -1,4 +1,4 @@
--- That a launch has one end and one text.
+-- That a launch has one end and one text, neither more nor none.
 use Rattle.std.specs.Prelude.{◌≡◌, ℕ, List}
 use Rattle.jl_tree.specs.Files.{File}
 use Rattle.jlayers.specs.declared.end.LaunchEnd.{LaunchEnd}
@@ -8,3 +8,7 @@ use Rattle.jlayers.specs.Launched.{Launched}
 abbrev pub LaunchesOnce : Type 0
 LaunchesOnce = (words : List (List ℕ)) (files : List File) (e f : LaunchEnd) (s t : List ℕ)
     → Launched words files e s → Launched words files f t → (e ≡ f) × (s ≡ t)
+
+-- Words over files always have an end and a text.
+abbrev pub LaunchesAlways : Type 0
+LaunchesAlways = (words : List (List ℕ)) (files : List File) → (end : LaunchEnd) × (text : List ℕ) × Launched words files end text

@@ -9,6 +9,7 @@ ghost use Rattle.jlayers.specs.Launched.{Ends, Completes, IsLaunched, IsAnswer, 
 
 use crate::end::{FindFault, LaunchEnd, Refusal, WordFault};
 use crate::finder::find_in;
+use crate::law::launches_always;
 use crate::text::{graph_lines, refusal_line, words_line};
 use crate::words::{Asked, asked_by};
 use crate::writing::write_lines;
@@ -83,6 +84,8 @@ pub fn launch<T: Tree, S: Sink>(
         → IfSome (T.files tree.old) (λ files. IfSome (S.taken out.old) (λ before.
         Completes (map string_bytes words.now) files before result (S.taken out.new))) }
 {
+    // There is an end and a text also where a stop leaves them undecided.
+    launches_always();
     match decide(alloc, words, tree) {
         Ok(outcome) => write_outcome(outcome, out),
         Err(Stop::ReadFault) => LaunchEnd::ReadFault,
