@@ -1,0 +1,3 @@
+/** What all share. */
+module core {
+}

@@ -1,0 +1,4 @@
+/** A library whose readers read core too. */
+module lib {
+    requires transitive core;
+}

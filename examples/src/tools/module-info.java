@@ -1,0 +1,4 @@
+/** Tools that no module needs. */
+module tools {
+    requires core;
+}
