@@ -4,3 +4,4 @@ pub mod FrontLaws
 pub mod NameLaws
 pub mod ModuleLaws
 pub mod FileLaws
+pub mod TextRows
