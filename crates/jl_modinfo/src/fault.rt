@@ -21,7 +21,7 @@ pub enum InfoFault {
     /// The number, text or attribute content at this place is not whole.
     Short(usize),
     /// The pool entry with this index is wrong.
-    BadPool(u16),
+    BadPool(usize),
     /// The first of flags, this, super, interfaces, fields and methods that no module declaration has.
     NotModule(Name),
     /// There is no Module attribute.

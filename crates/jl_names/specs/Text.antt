@@ -1,7 +1,6 @@
 -- Units and their bytes (JVMS 4.4.7), and units as UTF-8.
-use Rattle.std.specs.Prelude.{◌≡◌, ◌≢◌, ℕ, zero, suc, ◌+◌, ◌-◌, ◌*◌, ◌/◌, ◌%◌, ◌<◌, ◌≤◌, nat_lt, nat_le, ◌==◌, List, [], ◌∷◌, ◌++◌, length, take, slice_index, Bool, true, false, not, ◌&&◌, ◌||◌, Option, None, Some, Result, Ok, Err, encode_utf8, if◌then◌else◌}
+use Rattle.std.specs.Prelude.{ℕ, zero, suc, ◌+◌, ◌-◌, ◌*◌, ◌/◌, ◌%◌, ◌<◌, nat_lt, nat_le, ◌==◌, List, [], ◌∷◌, ◌++◌, length, slice_index, Bool, true, not, ◌&&◌, ◌||◌, Option, None, Some, Result, Ok, Err, encode_utf8, if◌then◌else◌}
 use Rattle.std.specs.List.{flat_map, AllByRecursion}
-use Rattle.jl_logic.specs.Lists.{IsFront}
 use Rattle.jl_reading.specs.Reading.{◌>>=◌}
 use Rattle.jl_names.specs.declared.fault.TextFault.{TextFault}
 use Rattle.jl_names.specs.declared.fault.TextFault.TheVariants.{BadText, NoMemory}
@@ -26,17 +25,6 @@ text_bytes units = flat_map unit_bytes units
 
 abbrev pub AreUnits : List ℕ → Type 0
 AreUnits = AllByRecursion (λ u. u < 65536)
-
--- bytes with which some text begins
-abbrev pub IsBegun : List ℕ → Type 0
-IsBegun bytes = (units : List ℕ) × AreUnits units × IsFront bytes (text_bytes units)
-
--- at this place stands the first byte, or the end, with which no text goes on
-pub record IsBadAt (bytes : List ℕ) (at : ℕ) : Type 0 where
-  pub within : at ≤ length bytes
-  pub begun : IsBegun (take at bytes)
-  pub stops : at < length bytes → IsBegun (take (at + 1) bytes) → ⊥
-  pub open_end : at ≡ length bytes → (units : List ℕ) → AreUnits units → text_bytes units ≢ bytes
 
 -- ---- reading
 

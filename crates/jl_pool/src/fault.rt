@@ -13,7 +13,7 @@ pub enum PoolFault {
     Short(usize),
     /// The entry with this index has an unknown tag, a bad text, a Long or Double at the last index, or a
     /// reference to an entry of another kind.
-    Entry(u16),
+    Entry(usize),
     /// There was no memory for the pool.
     NoMemory,
 }

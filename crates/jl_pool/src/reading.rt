@@ -23,7 +23,7 @@ fn text_of(alloc: Global, bytes: &[u8], index: u16) -> Result<Text, PoolFault>
 {
     let units = match units_of(alloc, bytes) {
         Ok(units) => units,
-        Err(TextFault::BadText(_)) => return Err(PoolFault::Entry(index)),
+        Err(TextFault::BadText(_)) => return Err(PoolFault::Entry(index as usize)),
         Err(TextFault::NoMemory) => return Err(PoolFault::NoMemory),
     };
     match plain_text(alloc, units.as_slice()) {
@@ -81,7 +81,7 @@ fn eight_at(bytes: &[u8], count: u16, index: u16, at: usize) -> Result<(u64, usi
     ensures within { IfOk result (λ x. x.1 ≤ length bytes.now) }
 {
     if index + 1 == count {
-        return Err(PoolFault::Entry(index));
+        return Err(PoolFault::Entry(index as usize));
     }
     u64_at(bytes, at)
 }
@@ -119,7 +119,7 @@ fn content_at(
         18 => indices_at(bytes, at).map(|((b, i), next)| (Entry::InvokeDynamic(b, i), next)),
         19 => u16_at(bytes, at).map(|(i, next)| (Entry::Module(i), next)),
         20 => u16_at(bytes, at).map(|(i, next)| (Entry::Package(i), next)),
-        _ => Err(PoolFault::Entry(index)),
+        _ => Err(PoolFault::Entry(index as usize)),
     }
 }
 
@@ -191,7 +191,7 @@ pub fn read_pool(alloc: Global, bytes: &[u8], at: usize) -> Result<(Pool, usize)
     let (count, at) = u16_at::<PoolFault>(bytes, at)?;
     let (entries, next) = entries_at(alloc, count, bytes, at)?;
     if let Some(index) = wrong_at(&entries) {
-        return Err(PoolFault::Entry(index as u16));
+        return Err(PoolFault::Entry(index));
     }
     Ok((Pool::from_entries(entries), next))
 }

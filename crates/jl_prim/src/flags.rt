@@ -21,10 +21,19 @@ bitflag_items! {
         const SYNCHRONIZED = 0x0020;
         const TRANSITIVE = 0x0020;
         const STATIC_PHASE = 0x0040;
+        const VOLATILE = 0x0040;
+        const BRIDGE = 0x0040;
+        const TRANSIENT = 0x0080;
+        const VARARGS = 0x0080;
         const NATIVE = 0x0100;
         const INTERFACE = 0x0200;
         const ABSTRACT = 0x0400;
+        const STRICT = 0x0800;
+        const SYNTHETIC = 0x1000;
+        const ANNOTATION = 0x2000;
+        const ENUM = 0x4000;
         const MODULE = 0x8000;
+        const MANDATED = 0x8000;
     }
 }
 
@@ -35,8 +44,11 @@ impl Flags for AccessFlags {
 
     ghost table = { (codes "PUBLIC", 1) ∷ (codes "PRIVATE", 2) ∷ (codes "PROTECTED", 4) ∷ (codes "STATIC", 8)
         ∷ (codes "FINAL", 16) ∷ (codes "OPEN", 32) ∷ (codes "SUPER", 32) ∷ (codes "SYNCHRONIZED", 32)
-        ∷ (codes "TRANSITIVE", 32) ∷ (codes "STATIC_PHASE", 64) ∷ (codes "NATIVE", 256)
-        ∷ (codes "INTERFACE", 512) ∷ (codes "ABSTRACT", 1024) ∷ (codes "MODULE", 32768) ∷ [] };
+        ∷ (codes "TRANSITIVE", 32) ∷ (codes "STATIC_PHASE", 64) ∷ (codes "VOLATILE", 64) ∷ (codes "BRIDGE", 64)
+        ∷ (codes "TRANSIENT", 128) ∷ (codes "VARARGS", 128) ∷ (codes "NATIVE", 256)
+        ∷ (codes "INTERFACE", 512) ∷ (codes "ABSTRACT", 1024) ∷ (codes "STRICT", 2048)
+        ∷ (codes "SYNTHETIC", 4096) ∷ (codes "ANNOTATION", 8192) ∷ (codes "ENUM", 16384)
+        ∷ (codes "MODULE", 32768) ∷ (codes "MANDATED", 32768) ∷ [] };
 
     ghost set_of = { λ flags. flags.0 };
 

@@ -144,8 +144,8 @@ impl fmt::Display for Name {
     }
 }
 
-/// Whether the bytes of a text name a module: there is one, and none is a control character, a blank or
-/// one of `\ : @ / = , ;` (JLS 7.7, with the characters that the command line and paths need).
+/// Whether the bytes of a text name a module: there is one, and each is past the blank and none of
+/// `\ : @ / = , ;` (JLS 7.7, without the characters that the command line and paths need).
 pub fn is_module_name(text: &[u8]) -> bool
     ensures { result ≡ names_a_module text.now }
 {

@@ -76,8 +76,9 @@ pub fn launch<T: Tree, S: Sink>(
         Ends (map string_bytes words.now) files before result (S.taken out.new))) }
     ensures read_fault { result ≡ LaunchEnd.ReadFault → Rose (T.faults tree.old) (T.faults tree.new) }
     ensures sink_fault { result ≡ LaunchEnd.SinkFault → Rose (S.faults out.old) (S.faults out.new) }
-    // Where the words are refused the tree is not asked.
+    // Where the words are refused no file is asked for, and the tree did not fail.
     ensures unasked { words_of (map string_bytes words.now) ≡ None → (T.asked tree.new ≡ T.asked tree.old) × (T.faults tree.new ≡ T.faults tree.old) }
+    ensures never_read { words_of (map string_bytes words.now) ≡ None → result ≡ LaunchEnd.ReadFault → ⊥ }
     // Where nothing failed, the end and the whole text are what is launched, or there was no memory and no text.
     ensures complete { T.faults tree.new ≡ T.faults tree.old → T.faults tree.old < last_count
         → S.faults out.new ≡ S.faults out.old → S.faults out.old < last_count
@@ -114,6 +115,7 @@ fn decide<T: Tree>(alloc: Global, words: &[String], tree: &mut T) -> Result<Outc
     ensures ended { IfOk result (λ o. IsFinal o.end) }
     ensures read_fault { IsErrOf result Stop.ReadFault → Rose (T.faults tree.old) (T.faults tree.new) }
     ensures unasked { words_of (map string_bytes words.now) ≡ None → (T.asked tree.new ≡ T.asked tree.old) × (T.faults tree.new ≡ T.faults tree.old) }
+    ensures never_read { words_of (map string_bytes words.now) ≡ None → IsErrOf result Stop.ReadFault → ⊥ }
 {
     match asked_by(alloc, words)? {
         Some(asked) => answer(alloc, &asked, tree),

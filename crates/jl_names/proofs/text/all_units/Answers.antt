@@ -1,7 +1,7 @@
-use Rattle.std.proofs.Common.{◌≡◌, ◌-◌, sym, ap, ◌∙◌, subst, arith, Ok, List, ℕ, length}
+use Rattle.std.proofs.Common.{◌-◌, sym, arith, length}
 use Rattle.std.proofs.lemmas.Result.{err_from_is_err_and}
-use Rattle.jl_names.specs.Text.{units_from, units_read, told}
-use Rattle.jl_names.proofs.TextLoop.{begins, goes_on, stops, ends, is_done, with_front}
+use Rattle.jl_names.specs.Text.{units_read}
+use Rattle.jl_names.proofs.TextLoop.{begins, goes_on, stops, ends, is_done}
 use Rattle.jl_names.proofs.text.all_units.Goals as goal
 use Rattle.jl_names.proofs.text.all_units.Goals.{else-loop-test, then-loop-test+then-at-bytes}
 
