@@ -6,8 +6,8 @@ ghost use Rattle.jl_config.specs.declared.fault.ResolveFault.TheVariants.{NoMemo
 use jl_prim::{CopyEnd, Name, PushEnd};
 use std::alloc::{AllocError, AllocFailed};
 
-/// Why a resolution is refused. Among several of one kind the one with the least fields stands, an absent
-/// name before all names.
+/// Why a resolution is refused. Where it could be refused for several reasons of one kind, the one whose
+/// fields are first in order is given; no name comes before any name.
 #[derive(Debug, PartialEq, Drop)]
 pub enum ResolveFault {
     /// A root, or a module that the module `by` requires, is not observed.

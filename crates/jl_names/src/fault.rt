@@ -9,7 +9,7 @@ use std::alloc::{AllocError, AllocFailed};
 /// Why a text was not read or made.
 #[derive(Clone, Copy, Debug, PartialEq, Eq)]
 pub enum TextFault {
-    /// At this place stands the first byte, or the end, with which the text cannot go on.
+    /// Here stands the first byte that no unit can have there, or the text ends inside a unit.
     BadText(usize),
     /// There was no memory for the answer.
     NoMemory,

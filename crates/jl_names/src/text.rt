@@ -12,7 +12,8 @@ use std::alloc::Global;
 
 /// The units that a modified UTF-8 text spells (JVMS 4.4.7).
 ///
-/// `BadText(at)` comes exactly at the first byte, or at the end, with which no unit begins or goes on.
+/// `BadText(at)` names the first byte that no unit can begin or continue with, or the end of a text that
+/// stops inside a unit.
 pub fn units_of(alloc: Global, bytes: &[u8]) -> Result<Units, TextFault>
     // What is read is spelled so.
     ensures found { IfOk result (λ units. AreUnits units × (text_bytes units ≡ bytes.now)) }

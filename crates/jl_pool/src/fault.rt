@@ -12,7 +12,7 @@ pub enum PoolFault {
     /// The number or the text at this place is not whole.
     Short(usize),
     /// The entry with this index has an unknown tag, a bad text, a Long or Double at the last index, or a
-    /// reference to an entry of another kind.
+    /// reference that names the wrong kind of entry.
     Entry(usize),
     /// There was no memory for the pool.
     NoMemory,

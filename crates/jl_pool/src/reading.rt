@@ -178,8 +178,8 @@ fn entries_at(
 
 /// The pool whose count stands at a place, and the place after the pool (JVMS 4.1, 4.4).
 ///
-/// `Short(at)` and `Entry(index)` come by the first fault from the left, and after the last entry by the
-/// least index with a reference to an entry of another kind.
+/// `Short(at)` and `Entry(index)` come by the first fault from the left. Where every entry is right in itself,
+/// `Entry(index)` is the first one whose reference names the wrong kind of entry.
 #[tactic(auto, unfolding(crate::specs::Reading::pool_at))]
 pub fn read_pool(alloc: Global, bytes: &[u8], at: usize) -> Result<(Pool, usize), PoolFault>
     requires { at ≤ length bytes.now }

@@ -36,7 +36,7 @@ impl Model for MemTree {
 }
 
 impl MemTree {
-    /// A tree of these files, each a path and the bytes there. No path is twice, and none is a folder of
+    /// A tree of these files, each a path and the bytes there. The paths differ, and no path goes through
     /// another. The calls of `list` and `read` with the numbers in `fails` fail. They are counted together,
     /// from 1.
     pub fn new(alloc: Global, files: Items<(Name, Items<u8>)>, fails: Items<u64>) -> MemTree
@@ -142,7 +142,7 @@ fn find_file<'a>(files: &'a [(Name, Items<u8>)], path: &Name) -> Option<&'a [u8]
     None
 }
 
-/// Whether no path is twice and none is a folder of another, so that a tree in memory can be made of them.
+/// Whether the paths differ and no path goes through another, so that a tree in memory can be made of them.
 /// It compares each two paths.
 pub fn are_of_one_tree(files: &[(Name, Items<u8>)]) -> bool
     ensures { result ≡ is_tree (map (λ f. f.path) (files_of files.now)) }

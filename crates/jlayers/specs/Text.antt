@@ -19,7 +19,7 @@ use Rattle.jlayers.specs.Command.{is_text}
 abbrev pub field : List ℕ → List ℕ
 field text = codes " " ++ text
 
--- A fault is the name of its variant and its fields in order, each after a blank.
+-- A fault is printed as its kind, and behind it its fields.
 abbrev pub info_text : InfoFault → List ℕ
 info_text infos.BadMagic = codes "BadMagic"
 info_text infos.BadVersion = codes "BadVersion"
