@@ -1,8 +1,8 @@
 -- Which modules a resolution has, and which of them reads which (JLS 7.7.1, `Configuration`). before and after are what the two finders observe.
 use Rattle.std.specs.Prelude.{◌≡◌, ℕ, zero, suc, List, [], ◌∷◌, Option, None, Some, Bool, not, ◌&&◌, ◌||◌, nat_eq, codes, IsTrue, Contains, ◌⊎◌, if◌then◌else◌}
-use Rattle.std.specs.Cmp.Lexicographic.{pointwise}
 use Rattle.jl_prim.specs.declared.declaration.Requires.{Requires}
 use Rattle.jl_prim.specs.declared.declaration.Observed.{Observed}
+use Rattle.jl_logic.specs.Order.{is_text}
 
 abbrev pub name_of : Observed → List ℕ
 name_of o = o.declaration.name
@@ -10,7 +10,7 @@ name_of o = o.declaration.name
 -- the first module of a name in a list
 abbrev pub find_named : List ℕ → List Observed → Option Observed
 find_named name [] = None
-find_named name (o ∷ os) = if pointwise nat_eq (name_of o) name then Some o else find_named name os
+find_named name (o ∷ os) = if is_text (name_of o) name then Some o else find_named name os
 
 -- A name is located in the before finder, else in the after finder.
 abbrev pub located : List Observed → List Observed → List ℕ → Option Observed
@@ -20,7 +20,7 @@ located before after name = or_else (find_named name before) (find_named name af
   or_else None other = other
 
 abbrev pub is_base : List ℕ → Bool
-is_base name = pointwise nat_eq name (codes "java.base")
+is_base name = is_text name (codes "java.base")
 
 -- an entry that is followed: one that is not static. That of java.base never is.
 abbrev pub is_followed : Requires → Bool

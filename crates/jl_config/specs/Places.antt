@@ -4,11 +4,10 @@ use Rattle.std.specs.List.{filter_map}
 use Rattle.std.specs.List.Sorted.{IsPartitionPoint}
 use Rattle.std.specs.Option.{option_map}
 use Rattle.std.specs.declared.cmp.Ordering.TheVariants.{Less, Greater}
-use Rattle.std.specs.Cmp.Lexicographic.{pointwise}
 use Rattle.jl_prim.specs.declared.numbers.ConfigId.{ConfigId}
 use Rattle.jl_prim.specs.declared.declaration.Requires.{Requires}
 use Rattle.jl_prim.specs.declared.declaration.Observed.{Observed}
-use Rattle.jl_logic.specs.Order.{name_cmp, RisesBy}
+use Rattle.jl_logic.specs.Order.{is_text, name_cmp, RisesBy}
 use Rattle.jl_config.specs.declared.configuration.Read.{Read}
 use Rattle.jl_config.specs.declared.places.Entries.{Entries}
 use Rattle.jl_config.specs.declared.places.Entries.TheVariants.{Every, Followed, PassedOn}
@@ -18,7 +17,7 @@ use Rattle.jl_config.specs.Resolves.{module_cmp, read_cmp, read_of}
 -- the place of the first module of a name
 abbrev pub place_named : List ℕ → List Observed → Option ℕ
 place_named name [] = None
-place_named name (o ∷ os) = if pointwise nat_eq (name_of o) name then Some 0 else option_map (λ p. p + 1) (place_named name os)
+place_named name (o ∷ os) = if is_text (name_of o) name then Some 0 else option_map (λ p. p + 1) (place_named name os)
 
 -- what a search for a name answers: its place, or where it would stand
 abbrev pub IsSearched : List ℕ → List Observed → Result ℕ ℕ → Type 0

@@ -1,5 +1,5 @@
 -- What the answer of a call tells, where some errors tell nothing, as want of memory.
-use Rattle.std.specs.Prelude.{◌≡◌, Option, None, Some, Result, Ok, Err, MatchOption, ⊤}
+use Rattle.std.specs.Prelude.{◌≡◌, Option, Result, Ok, Err, MatchOption, ⊤}
 
 -- What an error of type E tells of the answer of a definition: the fault, or nothing.
 abbrev pub Fails : {Y E F : Type 0} → (E → Option F) → E → Result Y F → Type 0

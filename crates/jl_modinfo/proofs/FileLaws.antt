@@ -18,7 +18,8 @@ use Rattle.jl_modinfo.specs.declared.module.Module.{Module}
 use Rattle.jl_modinfo.specs.declared.fault.InfoFault.{InfoFault}
 use Rattle.jl_modinfo.specs.declared.fault.InfoFault.TheVariants as faults
 use Rattle.jl_modinfo.specs.Faults.{told, short, named_or, pool_or}
-use Rattle.jl_modinfo.specs.Meaning.{is_text, keeps_base_rule}
+use Rattle.jl_logic.specs.Order.{is_text}
+use Rattle.jl_modinfo.specs.Meaning.{keeps_base_rule}
 use Rattle.jl_modinfo.specs.Info.{body_bytes, IsInfo}
 use Rattle.jl_modinfo.specs.Reading.{content_end, module_at, module_attribute_at, begins, attribute_at, attributes_at, whole, declaration_of, front_at, empty_class_at, info_of}
 use Rattle.jl_modinfo.proofs.FrontLaws.{Front, front_stands, front_reads, EmptyClass, empty_class_stands, empty_class_reads}

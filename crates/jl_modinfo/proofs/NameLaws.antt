@@ -8,7 +8,8 @@ use Rattle.std.proofs.lemmas.List.{map_push}
 use Rattle.indexmap.specs.IndexSet.{insert_key}
 use Rattle.jl_prim.specs.declared.declaration.Requires.{Requires}
 use Rattle.jl_logic.specs.Lists.{AreDistinct}
-use Rattle.jl_modinfo.specs.Meaning.{is_required, is_text}
+use Rattle.jl_logic.specs.Order.{is_text}
+use Rattle.jl_modinfo.specs.Meaning.{is_required}
 
 contains_first : {X : Type 0} (x y : X) (xs : List X) → y ≡ x → Contains (y ∷ xs) x
 contains_first x y xs e = (0, omega arith, e)

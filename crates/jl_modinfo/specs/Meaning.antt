@@ -2,15 +2,12 @@
 use Rattle.std.specs.Prelude.{ℕ, List, [], ◌∷◌, Option, None, Some, Bool, true, false, ◌&&◌, ◌==◌, nat_eq, codes, bit_and, if◌then◌else◌}
 use Rattle.std.specs.List.{list_any}
 use Rattle.std.specs.Option.{option_and_then}
-use Rattle.std.specs.Cmp.Lexicographic.{pointwise}
+use Rattle.jl_logic.specs.Order.{is_text}
 use Rattle.jl_prim.specs.declared.declaration.Requires.{Requires}
 use Rattle.jl_prim.specs.Names.{names_a_module}
 use Rattle.jl_names.specs.Text.{plain, has_no_lone_surrogate}
 use Rattle.jl_pool.specs.declared.entry.Entry.{Entry}
 use Rattle.jl_pool.specs.Pool.{utf8_of, text_of, class_of, module_of}
-
-abbrev pub is_text : List ℕ → List ℕ → Bool
-is_text = pointwise nat_eq
 
 abbrev pub java_base : List ℕ
 java_base = codes "java.base"

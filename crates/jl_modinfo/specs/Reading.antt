@@ -9,7 +9,8 @@ use Rattle.jl_pool.specs.Reading.{pool_at}
 use Rattle.jl_modinfo.specs.declared.module.Module.{Module}
 use Rattle.jl_modinfo.specs.declared.fault.InfoFault.{InfoFault}
 use Rattle.jl_modinfo.specs.declared.fault.InfoFault.TheVariants as faults
-use Rattle.jl_modinfo.specs.Meaning.{is_text, module_named, version_named, class_named, is_set, keeps_base_rule, is_module_info, is_required}
+use Rattle.jl_logic.specs.Order.{is_text}
+use Rattle.jl_modinfo.specs.Meaning.{module_named, version_named, class_named, is_set, keeps_base_rule, is_module_info, is_required}
 use Rattle.jl_modinfo.specs.Faults.{short, pool_or, named_or}
 
 -- ---- up to the attributes

@@ -1,6 +1,6 @@
 //! Modified UTF-8 to units and units to UTF-8.
 
-ghost use Rattle.std.specs.Prelude.{◌≡◌, ◌≤◌, ◌<◌, ℕ, List, length, Ok, IfOk, IsTrue, encode_utf8};
+ghost use Rattle.std.specs.Prelude.{◌≡◌, ◌≤◌, ◌<◌, ℕ, List, length, Ok, IfOk, IsOkUnless, IsTrue, encode_utf8};
 ghost use Rattle.std.specs.String.{string_bytes};
 ghost use Rattle.jl_logic.specs.Answers.{Gives};
 ghost use Rattle.jl_names.specs.Text.{units_read, unit_at, AreUnits, text_bytes, told, plain, has_no_lone_surrogate};
@@ -101,7 +101,9 @@ fn may_follow(first: u8, byte: u8) -> bool
 /// The units as UTF-8, a pair of surrogates as one character. A surrogate that stands alone becomes `?`.
 #[tactic(auto, unfolding(crate::specs::Text::plain))]
 pub fn plain_text(alloc: Global, units: &[u16]) -> Result<String, TextFault>
-    ensures { IfOk result (λ text. string_bytes text ≡ plain units.now) }
+    ensures text { IfOk result (λ text. string_bytes text ≡ plain units.now) }
+    // No other error comes.
+    ensures memory { IsOkUnless result TextFault.NoMemory }
 {
     let mut text = String::new(alloc);
     let mut rest = units;

@@ -2,7 +2,7 @@
 use Rattle.std.specs.Prelude.{◌≡◌, ◌≢◌, ℕ, ◌+◌, List, [], ◌∷◌, ◌++◌, length, drop, map, Option, None, Some, Result, Ok, Err, nat_eq, nat_lt, ◌==◌, ◌⊎◌, ⊤, Contains, option_map, if◌then◌else◌}
 use Rattle.std.specs.List.{starts_with, before_first, list_any}
 use Rattle.std.specs.Global.{Vec}
-use Rattle.std.specs.Cmp.Lexicographic.{pointwise}
+use Rattle.jl_logic.specs.Order.{is_text}
 use Rattle.jl_logic.specs.Lists.{AreDistinct}
 use Rattle.jl_tree.specs.declared.entry.Entry.{Entry}
 use Rattle.jl_tree.specs.declared.tree.TreeFault.{TreeFault}
@@ -16,7 +16,7 @@ pub record File : Type 0 where
 -- the bytes of the file at a path
 abbrev pub file_at : List File → List ℕ → Option (List ℕ)
 file_at [] path = None
-file_at (f ∷ fs) path = if pointwise nat_eq f.path path then Some f.bytes else file_at fs path
+file_at (f ∷ fs) path = if is_text f.path path then Some f.bytes else file_at fs path
 
 -- what a read of at most so many bytes answers
 abbrev pub read_of : List File → List ℕ → ℕ → Result (Option (List ℕ)) TreeFault

@@ -2,7 +2,7 @@
 use Rattle.std.specs.Prelude.{◌≡◌, ℕ, ◌-◌, List, [], ◌∷◌, ◌++◌, length, map, Option, Some, None, Result, Ok, Err, Bool, true, false, IsTrue, not, ◌&&◌, ◌||◌, ◌==◌, nat_eq, nat_lt, if◌then◌else◌, option_map}
 use Rattle.std.specs.List.{starts_with, list_any, list_all}
 use Rattle.std.specs.Global.{Vec}
-use Rattle.std.specs.Cmp.Lexicographic.{pointwise}
+use Rattle.jl_logic.specs.Order.{is_text}
 use Rattle.jl_logic.specs.Counts.{counted}
 use Rattle.jl_tree.specs.declared.entry.Entry.{Entry}
 use Rattle.jl_tree.specs.declared.tree.TreeFault.{TreeFault}
@@ -24,7 +24,7 @@ is_folder_of p q = starts_with nat_eq q (p ++ 47 ∷ [])
 
 -- two paths that stand in one tree: not the same, and none is a folder of the other
 abbrev pub are_apart : List ℕ → List ℕ → Bool
-are_apart p q = not (pointwise nat_eq p q) && (not (is_folder_of p q) && not (is_folder_of q p))
+are_apart p q = not (is_text p q) && (not (is_folder_of p q) && not (is_folder_of q p))
 
 -- no path is there twice, and none is a folder of another
 abbrev pub is_tree : List (List ℕ) → Bool

@@ -1,12 +1,9 @@
 -- The words that are taken: resolve --module-path P ROOT..
 use Rattle.std.specs.Prelude.{ℕ, List, [], ◌∷◌, Option, None, Some, Bool, true, false, not, ◌&&◌, ◌==◌, nat_eq, codes, if◌then◌else◌}
 use Rattle.std.specs.List.{list_all, list_any}
-use Rattle.std.specs.Cmp.Lexicographic.{pointwise}
+use Rattle.jl_logic.specs.Order.{is_text}
 use Rattle.jl_prim.specs.Names.{names_a_module}
 use Rattle.jlayers.specs.declared.words.Asked.{Asked}
-
-abbrev pub is_text : List ℕ → List ℕ → Bool
-is_text = pointwise nat_eq
 
 abbrev pub is_empty : List ℕ → Bool
 is_empty [] = true

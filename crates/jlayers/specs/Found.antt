@@ -1,8 +1,7 @@
 -- The modules in the folders of a folder, by the flat list of files.
 use Rattle.std.specs.Prelude.{◌≡◌, ℕ, List, [], ◌∷◌, ◌++◌, length, Some, Result, Ok, Err, Bool, not, ◌==◌, nat_eq, nat_lt, codes, filter, Contains, IsTrue, if◌then◌else◌}
 use Rattle.std.specs.List.{list_any}
-use Rattle.std.specs.Cmp.Lexicographic.{pointwise}
-use Rattle.jl_logic.specs.Order.{name_cmp, RisesBy}
+use Rattle.jl_logic.specs.Order.{is_text, name_cmp, RisesBy}
 use Rattle.jl_prim.specs.declared.declaration.Declaration.{Declaration}
 use Rattle.jl_prim.specs.declared.declaration.Observed.{Observed}
 use Rattle.jl_tree.specs.Files.{File, file_at}
@@ -63,7 +62,7 @@ each_declared path [] = Ok []
 each_declared path (c ∷ cs) = and_others (declared_in path c) (each_declared path cs)
 
 abbrev pub has_name_of : Observed → Observed → Bool
-has_name_of o p = pointwise nat_eq p.declaration.name o.declaration.name
+has_name_of o p = is_text p.declaration.name o.declaration.name
 
 -- the first module of each name
 abbrev pub first_of_each : List Observed → List Observed

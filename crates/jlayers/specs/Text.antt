@@ -13,7 +13,7 @@ use Rattle.jlayers.specs.declared.end.FindFault.{FindFault}
 use Rattle.jlayers.specs.declared.end.FindFault.TheVariants as finds
 use Rattle.jlayers.specs.declared.end.Refusal.{Refusal}
 use Rattle.jlayers.specs.declared.end.Refusal.TheVariants as refusals
-use Rattle.jlayers.specs.Command.{is_text}
+use Rattle.jl_logic.specs.Order.{is_text}
 
 -- a blank and a text
 abbrev pub field : List ℕ → List ℕ

@@ -2,7 +2,7 @@
 
 ghost use Rattle.std.specs.Prelude.{◌≡◌, ◌∷◌, [], ◌++◌, ◌&&◌, not, codes, map, IfOk, OnOk};
 ghost use Rattle.std.specs.String.{string_bytes};
-ghost use Rattle.jlayers.specs.Command.{is_text};
+ghost use Rattle.jl_logic.specs.Order.{is_text};
 ghost use Rattle.jlayers.specs.Text as lines;
 
 use crate::end::{FindFault, Refusal};

@@ -3,7 +3,8 @@
 ghost use Rattle.std.specs.Prelude.{◌≡◌, ◌==◌, codes, map, IfOk};
 ghost use Rattle.std.specs.List.{list_all, list_any};
 ghost use Rattle.std.specs.String.{string_bytes};
-ghost use Rattle.jlayers.specs.Command.{is_text, is_one_folder, begins_with_dash, is_root, are_roots, is_taken, words_of};
+ghost use Rattle.jl_logic.specs.Order.{is_text};
+ghost use Rattle.jlayers.specs.Command.{is_one_folder, begins_with_dash, is_root, are_roots, is_taken, words_of};
 
 use jl_prim::{CopyEnd, Items, Name, is_module_name};
 use std::alloc::Global;
