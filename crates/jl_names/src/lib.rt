@@ -1,10 +1,12 @@
 //! Texts of class files: modified UTF-8 (JVMS 4.4.7) and its units.
 #![tactic(auto)]
 
+mod dots;
 mod fault;
 mod text;
 mod units;
 
+pub use dots::{dotted, slashed};
 pub use fault::{CopyEnd, TextFault};
 pub use text::{is_paired, plain_text, units_of};
 pub use units::Units;
