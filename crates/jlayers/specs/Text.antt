@@ -14,6 +14,7 @@ use Rattle.jlayers.specs.declared.end.FindFault.TheVariants as finds
 use Rattle.jlayers.specs.declared.end.Refusal.{Refusal}
 use Rattle.jlayers.specs.declared.end.Refusal.TheVariants as refusals
 use Rattle.jl_logic.specs.Order.{is_text}
+use Rattle.jl_names.specs.Dots.{dotted}
 
 -- a blank and a text
 abbrev pub field : List ℕ → List ℕ
@@ -28,11 +29,10 @@ info_text (infos.BadPool i) = codes "BadPool" ++ field (decimal i)
 info_text (infos.NotModule name) = codes "NotModule" ++ field name
 info_text infos.NoModuleAttribute = codes "NoModuleAttribute"
 info_text (infos.BadIndex at) = codes "BadIndex" ++ field (decimal at)
-info_text (infos.Repeated table name) = codes "Repeated" ++ field table ++ field name
+info_text (infos.Repeated table name) = codes "Repeated" ++ field table ++ field (dotted name)
 info_text infos.BaseRule = codes "BaseRule"
-info_text (infos.PackageMissing name) = codes "PackageMissing" ++ field name
+info_text (infos.PackageMissing name) = codes "PackageMissing" ++ field (dotted name)
 info_text infos.Trailing = codes "Trailing"
-info_text (infos.NotBuilt at) = codes "NotBuilt" ++ field (decimal at)
 info_text infos.NoMemory = codes "NoMemory"
 
 abbrev pub find_text : FindFault → List ℕ

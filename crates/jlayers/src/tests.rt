@@ -220,11 +220,11 @@ fn files_that_are_refused(rt: HostRuntime) -> Result<(), Fail> {
     let line = "resolve --module-path m a";
     let mut bytes = declaration(alloc, "a", &[])?;
     assert_eq!(rt; bytes.len(), 100);
-    bytes[93] = 1;
+    bytes[99] = 1;
     let got = launched(alloc, line, one_file(alloc, bytes)?, &[], &[])?;
     same(
         got.as_str(),
-        "3 refused: Find Info m/a/module-info.class NotBuilt 92\n",
+        "3 refused: Find Info m/a/module-info.class Short 100\n",
     )?;
     let large = vec![in alloc; 0; 4194305]?;
     let got = launched(alloc, line, one_file(alloc, large)?, &[], &[])?;

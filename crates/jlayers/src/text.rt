@@ -8,7 +8,8 @@ ghost use Rattle.jlayers.specs.Text as lines;
 use crate::end::{FindFault, Refusal};
 use jl_config::{Configuration, Read, ResolveFault};
 use jl_modinfo::InfoFault;
-use jl_prim::{Name, Observed};
+use jl_names::dotted;
+use jl_prim::Observed;
 use std::alloc::{AllocError, Global};
 
 /// The line of refused words.
@@ -66,11 +67,16 @@ fn info_text(alloc: Global, fault: &InfoFault) -> Result<String, AllocError>
         InfoFault::NotModule(name) => format!(in alloc; "NotModule {name}"),
         InfoFault::NoModuleAttribute => String::from_str(alloc, "NoModuleAttribute"),
         InfoFault::BadIndex(at) => format!(in alloc; "BadIndex {at}"),
-        InfoFault::Repeated(table, name) => format!(in alloc; "Repeated {table} {name}"),
+        InfoFault::Repeated(table, name) => {
+            let name = dotted(alloc, name.as_str())?;
+            format!(in alloc; "Repeated {table} {name}")
+        }
         InfoFault::BaseRule => String::from_str(alloc, "BaseRule"),
-        InfoFault::PackageMissing(name) => format!(in alloc; "PackageMissing {name}"),
+        InfoFault::PackageMissing(name) => {
+            let name = dotted(alloc, name.as_str())?;
+            format!(in alloc; "PackageMissing {name}")
+        }
         InfoFault::Trailing => String::from_str(alloc, "Trailing"),
-        InfoFault::NotBuilt(at) => format!(in alloc; "NotBuilt {at}"),
         InfoFault::NoMemory => String::from_str(alloc, "NoMemory"),
     }
 }
