@@ -1,14 +1,13 @@
 -- Definitions of this crate and of those below, computed on small rows.
-use Rattle.std.specs.Prelude.{◌≡◌, ℕ, List, [], ◌∷◌, ◌++◌, Bool, true, false, None, Some, codes, refl}
+use Rattle.std.specs.Prelude.{◌≡◌, ℕ, List, [], ◌∷◌, true, false, None, Some, codes, refl}
 use Rattle.jl_logic.specs.Counts.{counted, last_count}
 use Rattle.jl_logic.specs.Order.{name_cmp, optional_cmp}
 use Rattle.std.specs.declared.cmp.Ordering.TheVariants.{Less}
 use Rattle.jl_prim.specs.Names.{names_a_module}
 use Rattle.jl_prim.specs.declared.declaration.Observed.{Observed}
 use Rattle.jl_modinfo.specs.declared.fault.InfoFault.TheVariants as infos
-use Rattle.jl_config.specs.Graphs.{Graph}
 use Rattle.jl_config.specs.declared.fault.ResolveFault.TheVariants.{NotFound}
-use Rattle.jlayers.specs.declared.end.FindFault.TheVariants.{Info}
+use Rattle.jl_finder.specs.declared.fault.FindFault.TheVariants.{Info}
 use Rattle.jlayers.specs.declared.end.Refusal.TheVariants.{Find, Resolve}
 use Rattle.jlayers.specs.Text.{graph_lines, refusal_line, line}
 use Rattle.jlayers.specs.Launched.{built_in_base}

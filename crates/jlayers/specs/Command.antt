@@ -1,5 +1,5 @@
 -- The words that are taken: resolve --module-path P ROOT..
-use Rattle.std.specs.Prelude.{ℕ, List, [], ◌∷◌, Option, None, Some, Bool, true, false, not, ◌&&◌, ◌==◌, nat_eq, codes, if◌then◌else◌}
+use Rattle.std.specs.Prelude.{ℕ, List, [], ◌∷◌, Option, None, Some, Bool, true, false, not, ◌&&◌, ◌==◌, codes, if◌then◌else◌}
 use Rattle.std.specs.List.{list_all, list_any}
 use Rattle.jl_logic.specs.Order.{is_text}
 use Rattle.jl_prim.specs.Names.{names_a_module}

@@ -1,5 +1,5 @@
 -- What is printed, as lines.
-use Rattle.std.specs.Prelude.{ℕ, List, [], ◌∷◌, ◌++◌, map, filter, Option, None, Some, Bool, not, ◌&&◌, codes}
+use Rattle.std.specs.Prelude.{ℕ, List, [], ◌∷◌, ◌++◌, map, filter, Option, None, Some, not, ◌&&◌, codes}
 use Rattle.std.specs.List.{flat_map}
 use Rattle.std.specs.Fmt.{decimal}
 use Rattle.jl_prim.specs.declared.declaration.Observed.{Observed}
@@ -9,11 +9,12 @@ use Rattle.jl_config.specs.declared.configuration.Read.{Read}
 use Rattle.jl_config.specs.declared.fault.ResolveFault.{ResolveFault}
 use Rattle.jl_config.specs.declared.fault.ResolveFault.TheVariants as resolves
 use Rattle.jl_config.specs.Graphs.{Graph}
-use Rattle.jlayers.specs.declared.end.FindFault.{FindFault}
-use Rattle.jlayers.specs.declared.end.FindFault.TheVariants as finds
+use Rattle.jl_finder.specs.declared.fault.FindFault.{FindFault}
+use Rattle.jl_finder.specs.declared.fault.FindFault.TheVariants as finds
 use Rattle.jlayers.specs.declared.end.Refusal.{Refusal}
 use Rattle.jlayers.specs.declared.end.Refusal.TheVariants as refusals
 use Rattle.jl_logic.specs.Order.{is_text}
+use Rattle.jl_names.specs.Dots.{dotted}
 
 -- a blank and a text
 abbrev pub field : List ℕ → List ℕ
@@ -28,16 +29,20 @@ info_text (infos.BadPool i) = codes "BadPool" ++ field (decimal i)
 info_text (infos.NotModule name) = codes "NotModule" ++ field name
 info_text infos.NoModuleAttribute = codes "NoModuleAttribute"
 info_text (infos.BadIndex at) = codes "BadIndex" ++ field (decimal at)
-info_text (infos.Repeated table name) = codes "Repeated" ++ field table ++ field name
+info_text (infos.Repeated table name) = codes "Repeated" ++ field table ++ field (dotted name)
 info_text infos.BaseRule = codes "BaseRule"
-info_text (infos.PackageMissing name) = codes "PackageMissing" ++ field name
+info_text (infos.PackageMissing name) = codes "PackageMissing" ++ field (dotted name)
 info_text infos.Trailing = codes "Trailing"
 info_text (infos.NotBuilt at) = codes "NotBuilt" ++ field (decimal at)
 info_text infos.NoMemory = codes "NoMemory"
 
 abbrev pub find_text : FindFault → List ℕ
 find_text (finds.Info path f) = codes "Info" ++ field path ++ field (info_text f)
+find_text (finds.Archive path) = codes "Archive" ++ field path
+find_text (finds.TwoInDirectory dir name) = codes "TwoInDirectory" ++ field dir ++ field name
+find_text (finds.TopLevelClass path) = codes "TopLevelClass" ++ field path
 find_text (finds.TooLarge path n) = codes "TooLarge" ++ field path ++ field (decimal n)
+find_text finds.TooMany = codes "TooMany"
 find_text finds.ReadFault = codes "ReadFault"
 find_text finds.NoMemory = codes "NoMemory"
 

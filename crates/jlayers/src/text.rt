@@ -5,10 +5,12 @@ ghost use Rattle.std.specs.String.{string_bytes};
 ghost use Rattle.jl_logic.specs.Order.{is_text};
 ghost use Rattle.jlayers.specs.Text as lines;
 
-use crate::end::{FindFault, Refusal};
+use crate::end::Refusal;
 use jl_config::{Configuration, Read, ResolveFault};
+use jl_finder::FindFault;
 use jl_modinfo::InfoFault;
-use jl_prim::{Name, Observed};
+use jl_names::dotted;
+use jl_prim::Observed;
 use std::alloc::{AllocError, Global};
 
 /// The line of refused words.
@@ -49,7 +51,11 @@ fn find_text(alloc: Global, fault: &FindFault) -> Result<String, AllocError>
             let text = info_text(alloc, fault)?;
             format!(in alloc; "Info {path} {text}")
         }
+        FindFault::Archive(path) => format!(in alloc; "Archive {path}"),
+        FindFault::TwoInDirectory(dir, name) => format!(in alloc; "TwoInDirectory {dir} {name}"),
+        FindFault::TopLevelClass(path) => format!(in alloc; "TopLevelClass {path}"),
         FindFault::TooLarge(path, length) => format!(in alloc; "TooLarge {path} {length}"),
+        FindFault::TooMany => String::from_str(alloc, "TooMany"),
         FindFault::ReadFault => String::from_str(alloc, "ReadFault"),
         FindFault::NoMemory => String::from_str(alloc, "NoMemory"),
     }
@@ -66,9 +72,15 @@ fn info_text(alloc: Global, fault: &InfoFault) -> Result<String, AllocError>
         InfoFault::NotModule(name) => format!(in alloc; "NotModule {name}"),
         InfoFault::NoModuleAttribute => String::from_str(alloc, "NoModuleAttribute"),
         InfoFault::BadIndex(at) => format!(in alloc; "BadIndex {at}"),
-        InfoFault::Repeated(table, name) => format!(in alloc; "Repeated {table} {name}"),
+        InfoFault::Repeated(table, name) => {
+            let name = dotted(alloc, name.as_str())?;
+            format!(in alloc; "Repeated {table} {name}")
+        }
         InfoFault::BaseRule => String::from_str(alloc, "BaseRule"),
-        InfoFault::PackageMissing(name) => format!(in alloc; "PackageMissing {name}"),
+        InfoFault::PackageMissing(name) => {
+            let name = dotted(alloc, name.as_str())?;
+            format!(in alloc; "PackageMissing {name}")
+        }
         InfoFault::Trailing => String::from_str(alloc, "Trailing"),
         InfoFault::NotBuilt(at) => format!(in alloc; "NotBuilt {at}"),
         InfoFault::NoMemory => String::from_str(alloc, "NoMemory"),

@@ -1,4 +1,4 @@
-use Rattle.std.proofs.Common.{◌≡◌, ◌≤◌, ◌∙◌, ap, arith, get_or}
+use Rattle.std.proofs.Common.{◌∙◌, ap, arith}
 use Rattle.std.specs.String.{string_bytes}
 use Rattle.jlayers.proofs.Progress.{line_written, line_failed}
 use Rattle.jlayers.proofs.writing.write_lines.Goals as goal
