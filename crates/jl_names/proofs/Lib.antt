@@ -1,3 +1,5 @@
 pub mod TextLaws
 pub mod TextLoop
 pub mod TextClauses
+pub mod NameLaws
+pub mod ParamsLoop

@@ -1,5 +1,5 @@
 -- The clauses of units_of, from the two laws of reading.
-use Rattle.std.proofs.Common.{◌≡◌, ℕ, List, Result, Ok, Err, ap, sym, ◌∙◌, subst}
+use Rattle.std.proofs.Common.{◌≡◌, ℕ, suc, ◌<◌, slice_index, List, [], ◌∷◌, Result, Ok, Err, ap, sym, ◌∙◌, subst}
 use Rattle.std.specs.Prelude.{IfOk}
 use Rattle.jl_logic.specs.Answers.{Gives}
 use Rattle.jl_reading.specs.Reading.{IsBytes}
@@ -13,3 +13,7 @@ is_found bytes (Err e) fits given = tt
 
 pub is_only : (bytes units : List ℕ) (r : Result (List ℕ) TextFault) → AreUnits units → text_bytes units ≡ bytes → Gives told (λ us. us) r (units_read bytes) → Gives told (λ us. us) r (Ok units)
 is_only bytes units r are spelled given = subst (λ read. Gives told (λ us. us) r read) (ap units_read (sym spelled) ∙ units_again units are) given
+
+pub all_fit : (units : List ℕ) → ((i : ℕ) → slice_index units i < 65536) → AreUnits units
+all_fit [] fits = tt
+all_fit (u ∷ us) fits = (fits 0, all_fit us (λ i. fits (suc i)))

@@ -1,1 +1,4 @@
+pub mod Bad
+pub mod Descriptors
+pub mod Names
 pub mod Text
