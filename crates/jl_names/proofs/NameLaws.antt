@@ -1,8 +1,8 @@
 -- Names, read from left to right.
-use Rattle.std.proofs.Common.{◌≡◌, ℕ, ◌+◌, ◌<◌, ◌≤◌, Bool, true, false, not, cond, ◌&&◌, ◌||◌, eqb, List, [], ◌∷◌, ◌++◌, length, take, drop, get_or, slice_index, refl, sym, ap, ◌∙◌, arith}
+use Rattle.std.proofs.Common.{◌≡◌, ℕ, ◌+◌, ◌-◌, ◌<◌, ◌≤◌, Bool, true, false, not, cond, ◌&&◌, ◌||◌, eqb, List, [], ◌∷◌, ◌++◌, length, take, drop, get_or, slice_index, refl, sym, ap, ◌∙◌, arith}
 use Rattle.std.specs.List.{list_all, list_any}
 use Rattle.std.proofs.lemmas.Bool.{cond_both, eqb-true}
-use Rattle.std.proofs.lemmas.List.{take_more}
+use Rattle.std.proofs.lemmas.List.{take_more, take_all}
 use Rattle.std.proofs.lemmas.List.Folds.{list_any-append}
 use Rattle.jl_names.specs.Names.{is_slash, is_reserved, stops, is_empty, with_first, parts, is_part, names_a_class, package_of}
 
@@ -62,9 +62,17 @@ class_step begun b bs = by_slash (is_slash b) refl
         rw is (step_slash begun bs ∙ by_begun begun)
     by_slash false e = rw e (by_reserved (is_reserved b) refl)
 
-pub class_more : (begun : Bool) (rest : List ℕ) → 1 ≤ length rest → goes_on begun rest ≡ cond (stops (get_or rest 0 0) begun) false (goes_on (not (is_slash (get_or rest 0 0))) (drop 1 rest))
-class_more begun [] long = absurd (omega arith)
-class_more begun (b ∷ bs) long = class_step begun b bs
+pub class_more : (begun : Bool) (rest : List ℕ) (total : Bool) → 1 ≤ length rest → stops (get_or rest 0 0) begun ≡ false → goes_on begun rest ≡ total
+    → goes_on (not (is_slash (get_or rest 0 0))) (take (length rest - 1) (drop 1 rest)) ≡ total
+class_more begun [] total long fine so_far = absurd (omega arith)
+class_more begun (b ∷ bs) total long fine so_far =
+    let k : length (b ∷ bs) - 1 ≡ length bs = omega arith in
+    let step : goes_on begun (b ∷ bs) ≡ goes_on (not (is_slash b)) bs = class_step begun b bs ∙ rw fine refl in
+    rw (k, take_all (length bs) bs (omega arith)) (sym step ∙ so_far)
+
+pub class_stops : (begun : Bool) (rest : List ℕ) → 1 ≤ length rest → stops (get_or rest 0 0) begun ≡ true → goes_on begun rest ≡ false
+class_stops begun [] long wrong = absurd (omega arith)
+class_stops begun (b ∷ bs) long wrong = class_step begun b bs ∙ rw wrong refl
 
 pub class_done : (begun : Bool) (rest : List ℕ) → length rest < 1 → goes_on begun rest ≡ begun
 class_done begun [] short = class_end begun

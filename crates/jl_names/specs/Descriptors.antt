@@ -150,9 +150,13 @@ field_at text = do
   t ← type_at text 0
   Ok (Field t.0, t.1)
 
+-- the descriptor with which a text begins
+abbrev pub front_of : List ℕ → Result (Descriptor × ℕ) TextFault
+front_of text = if has_at text 0 40 then method_at text else field_at text
+
 abbrev pub whole_or : List ℕ → Descriptor × ℕ → Result Descriptor TextFault
 whole_or text d = if d.1 == length text then Ok d.0 else Err (BadText d.1)
 
 -- the descriptor that a text is, or its first bad place
 unfoldable pub descriptor_read : List ℕ → Result Descriptor TextFault
-descriptor_read text = (if has_at text 0 40 then method_at text else field_at text) >>= whole_or text
+descriptor_read text = front_of text >>= whole_or text

@@ -7,7 +7,6 @@ ghost use Rattle.jl_names.specs.Names.{stops};
 
 /// Whether a text names a class or a package in internal form: nonempty parts with `/` between them, none
 /// with `.`, `;` or `[`.
-#[tactic(auto, using(crate::proofs::NameLaws::class_more, crate::proofs::NameLaws::class_done))]
 pub fn is_class_name(text: &[u8]) -> bool
     ensures { result ≡ names.names_a_class text.now }
 {

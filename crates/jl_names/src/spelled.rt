@@ -6,7 +6,7 @@ ghost use Rattle.jl_names.specs.Bad.{IsBadAt};
 ghost use Rattle.jl_names.specs.Text.{told};
 ghost use Rattle.jl_names.specs.declared.fault.TextFault.TheVariants.{BadText};
 ghost use Rattle.jl_names.specs.Descriptors as readings;
-ghost use Rattle.jl_names.specs.Descriptors.{descriptor_read, IsDescriptor, IsSomeDescriptor};
+ghost use Rattle.jl_names.specs.Descriptors.{descriptor_read, front_of, IsDescriptor, IsSomeDescriptor};
 
 use crate::fault::TextFault;
 use crate::types::{BaseType, Descriptor, FieldType, Params};
@@ -26,15 +26,29 @@ pub fn descriptor(alloc: Global, text: &[u8]) -> Result<Descriptor, TextFault>
     // By reading from left to right.
     ensures exact { Gives told (λ x. x) result (descriptor_read text.now) }
 {
-    let (descriptor, next) = if has_at(text, 0, b'(') {
-        method_at(alloc, text)?
-    } else {
-        field_at(text)?
-    };
+    whole(alloc, text)
+}
+
+#[tactic(auto, unfolding(crate::specs::Descriptors::descriptor_read))]
+fn whole(alloc: Global, text: &[u8]) -> Result<Descriptor, TextFault>
+    ensures { Gives told (λ x. x) result (descriptor_read text.now) }
+{
+    let (descriptor, next) = front(alloc, text)?;
     if next != text.len() {
         return Err(TextFault::BadText(next));
     }
     Ok(descriptor)
+}
+
+/// The descriptor with which a text begins, and the place after it.
+fn front(alloc: Global, text: &[u8]) -> Result<(Descriptor, usize), TextFault>
+    ensures { Gives told (λ x. x) result (front_of text.now) }
+{
+    if has_at(text, 0, b'(') {
+        method_at(alloc, text)
+    } else {
+        field_at(text)
+    }
 }
 
 fn has_at(text: &[u8], at: usize, byte: u8) -> bool
