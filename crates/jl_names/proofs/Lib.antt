@@ -3,3 +3,4 @@ pub mod TextLoop
 pub mod TextClauses
 pub mod NameLaws
 pub mod ParamsLoop
+pub mod TypeLaws

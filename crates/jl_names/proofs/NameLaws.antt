@@ -27,7 +27,7 @@ all_begun (p ∷ ps) = refl
 pub class_first : (name : List ℕ) → goes_on false name ≡ names_a_class name
 class_first name = all_begun (parts name)
 
-class_end : (begun : Bool) → goes_on begun [] ≡ begun
+pub class_end : (begun : Bool) → goes_on begun [] ≡ begun
 unfolding parts
 class_end true = refl
 class_end false = refl
@@ -46,7 +46,7 @@ step_within true false b (p ∷ ps) e = rw e refl
 step_within false true b (p ∷ ps) e = rw e refl
 step_within false false b (p ∷ ps) e = rw e refl
 
-class_step : (begun : Bool) (b : ℕ) (bs : List ℕ) → goes_on begun (b ∷ bs) ≡ cond (stops b begun) false (goes_on (not (is_slash b)) bs)
+pub class_step : (begun : Bool) (b : ℕ) (bs : List ℕ) → goes_on begun (b ∷ bs) ≡ cond (stops b begun) false (goes_on (not (is_slash b)) bs)
 unfolding parts
 class_step begun b bs = by_slash (is_slash b) refl
   where

@@ -13,7 +13,7 @@ use Rattle.jl_names.specs.Text.{unit_bytes, text_bytes, AreUnits, is_tail, may_f
 
 -- ---- bytes at places
 
-byte_stands : (bytes : List ℕ) (at : ℕ) → at < length bytes → Stands bytes at (slice_index bytes at ∷ []) (at + 1)
+pub byte_stands : (bytes : List ℕ) (at : ℕ) → at < length bytes → Stands bytes at (slice_index bytes at ∷ []) (at + 1)
 byte_stands bytes at lt = Stands-from_parts bytes at (slice_index bytes at ∷ []) (drop (at + 1) bytes) (at + 1) (drop_more bytes at 0 lt) refl (omega arith)
 
 two_stand : (bytes : List ℕ) (at : ℕ) → at + 1 < length bytes → Stands bytes at (slice_index bytes at ∷ slice_index bytes (at + 1) ∷ []) (at + 2)
@@ -28,12 +28,12 @@ three_stand bytes at lt =
     subst (λ (n : ℕ). Stands bytes at (slice_index bytes at ∷ slice_index bytes (at + 1) ∷ slice_index bytes (at + 2) ∷ []) n) place
     (Stands-then bytes at (slice_index bytes at ∷ slice_index bytes (at + 1) ∷ []) (at + 2) (slice_index bytes (at + 2) ∷ []) ((at + 2) + 1) (two_stand bytes at (omega arith)) (byte_stands bytes (at + 2) lt))
 
-record Begins (bytes : List ℕ) (at x : ℕ) (xs : List ℕ) (next : ℕ) : Type 0 where
+pub record Begins (bytes : List ℕ) (at x : ℕ) (xs : List ℕ) (next : ℕ) : Type 0 where
   pub here : slice_index bytes at ≡ x
   pub rest : Stands bytes (at + 1) xs next
   pub within : at < length bytes
 
-begins : (bytes : List ℕ) (at x : ℕ) (xs : List ℕ) (next : ℕ) → Stands bytes at (x ∷ xs) next → Begins bytes at x xs next
+pub begins : (bytes : List ℕ) (at x : ℕ) (xs : List ℕ) (next : ℕ) → Stands bytes at (x ∷ xs) next → Begins bytes at x xs next
 begins bytes at x xs next s =
     let place : at ≡ at + 0 = omega arith in
     record {
