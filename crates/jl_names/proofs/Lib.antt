@@ -4,3 +4,4 @@ pub mod TextClauses
 pub mod NameLaws
 pub mod ParamsLoop
 pub mod TypeLaws
+pub mod DescriptorLaws

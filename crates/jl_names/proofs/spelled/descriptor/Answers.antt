@@ -1,11 +1,11 @@
-use Rattle.jl_names.proofs.TypeLaws.{name_again}
+use Rattle.jl_names.proofs.DescriptorLaws.{is_found, is_only}
 use Rattle.jl_names.proofs.spelled.descriptor.Goals as goal
 
 pub returns-clause-found : goal.returns-clause-found
-returns-clause-found c = ?
+returns-clause-found c = is_found c.args.text.now c.whole.result c.whole.ensures
 
 pub returns-clause-only : goal.returns-clause-only
-returns-clause-only c = ?
+returns-clause-only c = is_only c.args.text.now c.whole.result c.whole.ensures
 
 pub returns-clause-bad : goal.returns-clause-bad
 returns-clause-bad c = ?
