@@ -5,3 +5,6 @@ pub mod NameLaws
 pub mod ParamsLoop
 pub mod TypeLaws
 pub mod DescriptorLaws
+pub mod BadPlaces
+pub mod DescriptorBad
+pub mod MethodBad

@@ -28,13 +28,6 @@ base_fault at = Err (BadText at)
 
 -- ---- brackets
 
-pub brackets_take : (l : List ℕ) → take (brackets l) l ≡ replicate (brackets l) 91
-unfolding brackets
-brackets_take [] = refl
-brackets_take (b ∷ bs) =
-    cond_both (eqb b 91) (suc (brackets bs)) 0 (λ n. take n (b ∷ bs) ≡ replicate n 91)
-    (λ e. let is : b ≡ 91 = eqb-true b 91 e in rw is (ap (λ (l : List ℕ). 91 ∷ l) (brackets_take bs))) (λ e. refl)
-
 pub brackets_fit : (l : List ℕ) → brackets l ≤ length l
 unfolding brackets
 brackets_fit [] = omega arith
@@ -49,6 +42,43 @@ pub brackets_again : (n : ℕ) (rest : List ℕ) → (get_or rest 0 0 ≡ 91 →
 unfolding brackets
 brackets_again zero rest other = brackets_none rest other
 brackets_again (suc n) rest other = ap suc (brackets_again n rest other)
+
+-- the same [ before other bytes
+pub brackets_same : (q u v : List ℕ) → brackets (q ++ u) < length q → brackets (q ++ v) ≡ brackets (q ++ u)
+unfolding brackets
+brackets_same [] u v lt = absurd (omega arith)
+brackets_same (b ∷ q) u v lt =
+    elim (cases_eq b 91) [
+      | inl is ↦
+          let less : suc (brackets (q ++ u)) < length (b ∷ q) = rw (eq-eqb b 91 is) at lt in
+          rw (eq-eqb b 91 is) (ap suc (brackets_same q u v (omega arith)))
+      | inr other ↦ rw (ne_eqb b 91 other) refl
+    ]
+
+pub brackets_kept : (q u v : List ℕ) (n : ℕ) → n ≤ length q → n ≤ brackets (q ++ u) → n ≤ brackets (q ++ v)
+unfolding brackets
+brackets_kept q u v zero le many = omega arith
+brackets_kept [] u v (suc n) le many = absurd (omega arith)
+brackets_kept (b ∷ q) u v (suc n) le many =
+    elim (cases_eq b 91) [
+      | inl is ↦
+          let more : suc n ≤ suc (brackets (q ++ u)) = rw (eq-eqb b 91 is) at many in
+          let rest = brackets_kept q u v n (omega arith) (omega arith) in
+          rw (eq-eqb b 91 is) (omega arith)
+      | inr other ↦ let none : suc n ≤ 0 = rw (ne_eqb b 91 other) at many in absurd (omega arith)
+    ]
+
+pub brackets_less : (n : ℕ) (l : List ℕ) → n ≤ brackets l → take n l ≡ replicate n 91
+unfolding brackets
+brackets_less zero l many = refl
+brackets_less (suc n) [] many = absurd (omega arith)
+brackets_less (suc n) (b ∷ bs) many =
+    elim (cases_eq b 91) [
+      | inl is ↦
+          let more : suc n ≤ suc (brackets bs) = rw (eq-eqb b 91 is) at many in
+          rw is (ap (λ (l : List ℕ). 91 ∷ l) (brackets_less n bs (omega arith)))
+      | inr other ↦ let none : suc n ≤ 0 = rw (ne_eqb b 91 other) at many in absurd (omega arith)
+    ]
 
 -- ---- class names
 
@@ -186,6 +216,14 @@ base_read text at =
         ]
     ]
 
+pub base_named : (text : List ℕ) (at : ℕ) → at < length text → slice_index text at ≡ 76 → base_at text at ≡ class_of (at + 1) (name_end true (drop (at + 1) text) (at + 1))
+unfolding base_at
+base_named text at inside here = rw (lt-ltb at (length text) inside, here) refl
+
+pub base_other : (text : List ℕ) (at b : ℕ) → at < length text → slice_index text at ≡ b → is_primitive b ≡ false → (b ≡ 76 → ⊥) → base_at text at ≡ Err (BadText at)
+unfolding base_at
+base_other text at b inside here p not_76 = rw (lt-ltb at (length text) inside, here, p, ne_eqb b 76 not_76) refl
+
 abbrev BaseStands : List ℕ → ℕ → BaseType × ℕ → Type 0
 BaseStands text at b = IsBase text at b.0 × Stands text at (base_bytes text b.0) b.1
 
@@ -219,11 +257,11 @@ base_stands text at b next e =
       | other inside p not_76 is ↦ let bad : base_fault at ≡ Ok (b, next) = sym is ∙ e in absurd cc
     ]
 
-base_prim : (text : List ℕ) (at b next : ℕ) → at < length text → slice_index text at ≡ b → at + 1 ≡ next → is_primitive b ≡ true → base_at text at ≡ Ok (Prim b, next)
+pub base_prim : (text : List ℕ) (at b next : ℕ) → at < length text → slice_index text at ≡ b → at + 1 ≡ next → is_primitive b ≡ true → base_at text at ≡ Ok (Prim b, next)
 unfolding base_at
 base_prim text at b next inside here ends p = rw (lt-ltb at (length text) inside, here, p, ends) refl
 
-base_class : (text : List ℕ) (at from to next : ℕ) → at < length text → slice_index text at ≡ 76 → from ≡ at + 1 → to + 1 ≡ next → name_end true (drop (at + 1) text) (at + 1) ≡ Ok to → base_at text at ≡ Ok (Class from to, next)
+pub base_class : (text : List ℕ) (at from to next : ℕ) → at < length text → slice_index text at ≡ 76 → from ≡ at + 1 → to + 1 ≡ next → name_end true (drop (at + 1) text) (at + 1) ≡ Ok to → base_at text at ≡ Ok (Class from to, next)
 unfolding base_at
 base_class text at from to next inside here start ends read = rw (lt-ltb at (length text) inside, here, read, ends, start) refl
 
@@ -246,7 +284,7 @@ base_again text at (Class from to) next is s =
 
 -- ---- types
 
-abbrev typed : ℕ → BaseType → FieldType
+abbrev pub typed : ℕ → BaseType → FieldType
 typed d b = record { dims = d; base = b }
 
 -- a type that is no array does not begin with [
@@ -270,6 +308,17 @@ type_from text at d b next few all read =
       ap brackets (sym (take-append-drop d (drop at text)) ∙ ap (λ (l : List ℕ). l ++ drop d (drop at text)) all) ∙ brackets_again d (drop d (drop at text)) other in
     rw (count, le-ltb 255 d (omega arith), read) refl
 
+abbrev pub typed_of : ℕ → Result (BaseType × ℕ) TextFault → Result (FieldType × ℕ) TextFault
+typed_of dims read = read >>= λ b. Ok (typed dims b.0, b.1)
+
+pub type_few : (text : List ℕ) (at dims : ℕ) → brackets (drop at text) ≡ dims → dims < 256 → type_at text at ≡ typed_of dims (base_at text (at + dims))
+unfolding type_at
+type_few text at dims count few = rw (count, le-ltb 255 dims (omega arith)) refl
+
+pub type_many : (text : List ℕ) (at : ℕ) → 255 < brackets (drop at text) → type_at text at ≡ Err (BadText (at + 255))
+unfolding type_at
+type_many text at many = rw (lt-ltb 255 (brackets (drop at text)) many) refl
+
 pub type_stands : (text : List ℕ) (at : ℕ) (t : FieldType) (next : ℕ) → at ≤ length text → type_at text at ≡ Ok (t, next) → StandsType text at t next
 unfolding type_at
 type_stands text at t next le e =
@@ -280,7 +329,7 @@ type_stands text at t next le e =
     let s = base_stands text (at + dims) read.0.0 read.0.1 read.1 in
     let fit = brackets_fit (drop at text) in
     let front : Stands text at (replicate dims 91) (at + dims) =
-      subst (λ (l : List ℕ). Stands text at l (at + dims)) (brackets_take (drop at text)) (Stands-taken text at dims (omega (arith, length-drop at text))) in
+      subst (λ (l : List ℕ). Stands text at l (at + dims)) (brackets_less dims (drop at text) (omega arith)) (Stands-taken text at dims (omega (arith, length-drop at text))) in
     subst (λ (x : FieldType × ℕ). StandsType text at x.0 x.1) (ok_is (typed dims read.0.0, read.0.1) (t, next) read.2)
     (record { few = few; base = s.0; stands = Stands-then text at (replicate dims 91) (at + dims) (base_bytes text read.0.0) read.0.1 front s.1 })
 

@@ -1,3 +1,4 @@
+use Rattle.jl_names.proofs.MethodBad.{FrontDone}
 use Rattle.jl_names.proofs.DescriptorLaws.{is_found, is_only}
 use Rattle.jl_names.proofs.spelled.descriptor.Goals as goal
 
