@@ -2,10 +2,12 @@
 use Rattle.std.proofs.Common.{◌≡◌, ℕ, zero, suc, ◌+◌, ◌<◌, ◌≤◌, Bool, true, false, not, cond, ltb, eqb, List, [], ◌∷◌, ◌++◌, length, take, drop, get_or, slice_index, Option, None, Some, Result, Ok, Err, refl, sym, ap, subst, ◌∙◌, append_assoc, arith, inl, inr}
 use Rattle.std.specs.Prelude.{◌⊎◌}
 use Rattle.std.proofs.Math.Seq.{get_or-append_seam}
-use Rattle.std.proofs.lemmas.Bool.{cond_both, ltb-true, ltb-false, lt-ltb, le-ltb, eqb-true, eq-eqb, ne_eqb, and_parts, cases_Bool, cases_lt, cases_eq}
+use Rattle.std.proofs.lemmas.Bool.{cond_both, ltb-true, ltb-false, lt-ltb, le-ltb, eqb-true, eqb-false, ne_eqb, and_parts, cases_Bool, cases_lt, cases_eq}
 use Rattle.std.proofs.lemmas.List.{length-append, length-take-le, get_or-append-add, take-append-drop, append-nil}
+use Rattle.jl_logic.specs.Answers.{Gives}
 use Rattle.jl_reading.specs.Reading.{◌>>=◌, Stands}
 use Rattle.jl_names.specs.Bad.{IsBadAt}
+use Rattle.jl_names.specs.Text.{told}
 use Rattle.jl_names.specs.declared.fault.TextFault.{TextFault}
 use Rattle.jl_names.specs.declared.fault.TextFault.TheVariants.{BadText, NoMemory}
 use Rattle.jl_names.specs.declared.types.BaseType.{BaseType}
@@ -335,6 +337,11 @@ pub record FrontDone (p : List ℕ) : Type 0 where
   pub found : Descriptor
   pub reads : front_of (p ++ rest) ≡ Ok (found, length (p ++ rest))
 
+void_last : (p rest : List ℕ) → get_or (p ++ (rest ++ 41 ∷ 86 ∷ [])) (length p + length rest + 1) 0 ≡ 86
+void_last p rest =
+    let place : length p + length rest + 1 ≡ length p + (length rest + 1) = omega arith in
+    ap (λ (n : ℕ). get_or (p ++ (rest ++ 41 ∷ 86 ∷ [])) n 0) place ∙ get_or-append-add p (rest ++ 41 ∷ 86 ∷ []) (length rest + 1) 0 ∙ get_or-append-add rest (41 ∷ 86 ∷ []) 1 0
+
 method_completes : (p u : List ℕ) → has_at (p ++ u) 0 40 ≡ true → method_at (p ++ u) ≡ Err (BadText (length p)) → FrontDone p
 method_completes p u opens e =
     let le : 1 ≤ length (p ++ u) = (has_parts (p ++ u) 0 40 opens).0 in
@@ -346,7 +353,7 @@ method_completes p u opens e =
           let text = p ++ end in
           let close = length p + length d.rest in
           let size : length text ≡ close + 2 = omega (arith, length-append p end, length-append d.rest (41 ∷ 86 ∷ [])) in
-          let last : get_or text (close + 1) 0 ≡ 86 = ? in
+          let last : get_or text (close + 1) 0 ≡ 86 = void_last p d.rest in
           record {
             rest = end;
             found = Method d.found None;
@@ -370,3 +377,153 @@ method_completes p u opens e =
               (params_stays (length (p ++ u)) (length text) 0 p u c.rest 1 le (omega arith) (omega arith) near ∙ x.1) result;
           }
     ]
+
+-- ---- fields
+
+abbrev field_of : Result (FieldType × ℕ) TextFault → Result (Descriptor × ℕ) TextFault
+field_of read = read >>= λ t. Ok (Field t.0, t.1)
+
+field_reach : (r : Result (FieldType × ℕ) TextFault) → reach front_end (field_of r) ≡ reach type_end r
+field_reach (Ok t) = refl
+field_reach (Err (BadText k)) = refl
+field_reach (Err NoMemory) = refl
+
+field_bad : (k : ℕ) (r : Result (FieldType × ℕ) TextFault) → field_of r ≡ Err (BadText k) → r ≡ Err (BadText k)
+field_bad k (Ok t) e = absurd cc
+field_bad k (Err d) e = let same : d ≡ BadText k = cc in ap (λ (x : TextFault). Err x) same
+
+field_is : (text : List ℕ) → field_at text ≡ field_of (type_at text 0)
+unfolding field_at
+field_is text = refl
+
+field_spans : (text : List ℕ) → Spans front_end 0 (length text) (field_at text)
+field_spans text = rw (field_is text) (spans_bind type_end front_end 0 (length text) (type_at text 0) (λ t. Ok (Field t.0, t.1)) (type_spans text 0 (omega arith)) (λ t e lt within. (lt, within)))
+
+field_stays : (p u v : List ℕ) → reach front_end (field_at (p ++ u)) ≤ length p → field_at (p ++ v) ≡ field_at (p ++ u)
+field_stays p u v near =
+    let close : reach type_end (type_at (p ++ u) 0) ≤ length p = subst (λ (n : ℕ). n ≤ length p) (ap (reach front_end) (field_is (p ++ u)) ∙ field_reach (type_at (p ++ u) 0)) near in
+    field_is (p ++ v) ∙ ap field_of (type_stays p u v 0 (omega arith) close) ∙ sym (field_is (p ++ u))
+
+abbrev type_found : FieldType → ℕ → Result (FieldType × ℕ) TextFault
+type_found t at = Ok (t, at)
+
+field_completes : (p u : List ℕ) → field_at (p ++ u) ≡ Err (BadText (length p)) → FrontDone p
+field_completes p u e =
+    let t = type_completes p u 0 (omega arith) (field_bad (length p) (type_at (p ++ u) 0) (sym (field_is (p ++ u)) ∙ e)) in
+    let rest = t.done.rest in
+    let read : type_at (p ++ rest) 0 ≡ Ok (t.done.found, length p + length rest) = subst (λ (l : List ℕ). type_at (p ++ l) 0 ≡ Ok (t.done.found, length p + length rest)) (append-nil rest) (t.done.reads []) in
+    record {
+      rest = rest;
+      found = Field t.done.found;
+      reads = front_field (p ++ rest) t.done.found (length (p ++ rest)) (read ∙ ap (type_found t.done.found) (sym (length-append p rest)));
+    }
+
+-- ---- whole texts
+
+abbrev failed_at : ℕ → Result Descriptor TextFault
+failed_at k = Err (BadText k)
+
+abbrev read_of : Descriptor → Result Descriptor TextFault
+read_of d = Ok d
+
+front_opens : (text : List ℕ) → has_at text 0 40 ≡ true → front_of text ≡ method_at text
+front_opens text opens = rw opens refl
+
+front_other : (text : List ℕ) → has_at text 0 40 ≡ false → front_of text ≡ field_at text
+front_other text other = rw other refl
+
+front_spans : (text : List ℕ) → Spans front_end 0 (length text) (front_of text)
+front_spans text =
+    elim (cases_Bool (has_at text 0 40)) [
+      | inl opens ↦ let p = has_parts text 0 40 opens in rw (front_opens text opens) (method_spans text (omega (arith, p.0)))
+      | inr other ↦ rw (front_other text other) (field_spans text)
+    ]
+
+front_stays : (p u v : List ℕ) → reach front_end (front_of (p ++ u)) ≤ length p → front_of (p ++ v) ≡ front_of (p ++ u)
+front_stays p u v near =
+    let lt : 0 < length p = omega (arith, spans_reach front_end 0 (length (p ++ u)) (front_of (p ++ u)) (front_spans (p ++ u))) in
+    let same = has_same p u v 0 40 lt in
+    elim (cases_Bool (has_at (p ++ u) 0 40)) [
+      | inl opens ↦
+          let close : reach front_end (method_at (p ++ u)) ≤ length p = subst (λ (r : Result (Descriptor × ℕ) TextFault). reach front_end r ≤ length p) (front_opens (p ++ u) opens) near in
+          front_opens (p ++ v) (same ∙ opens) ∙ method_stays p u v (has_parts (p ++ u) 0 40 opens).0 close ∙ sym (front_opens (p ++ u) opens)
+      | inr other ↦
+          let close : reach front_end (field_at (p ++ u)) ≤ length p = subst (λ (r : Result (Descriptor × ℕ) TextFault). reach front_end r ≤ length p) (front_other (p ++ u) other) near in
+          front_other (p ++ v) (same ∙ other) ∙ field_stays p u v close ∙ sym (front_other (p ++ u) other)
+    ]
+
+front_completes : (p u : List ℕ) → front_of (p ++ u) ≡ Err (BadText (length p)) → FrontDone p
+front_completes p u e =
+    elim (cases_Bool (has_at (p ++ u) 0 40)) [
+      | inl opens ↦ method_completes p u opens (sym (front_opens (p ++ u) opens) ∙ e)
+      | inr other ↦ field_completes p u (sym (front_other (p ++ u) other) ∙ e)
+    ]
+
+read_is : (text : List ℕ) → descriptor_read text ≡ (front_of text >>= whole_or text)
+unfolding descriptor_read
+read_is text = refl
+
+-- the place behind what does not end the text
+left_over : (text : List ℕ) (d : Descriptor × ℕ) (k : ℕ) → whole_or text d ≡ Err (BadText k) → (d.1 ≡ k) × (d.1 ≡ length text → ⊥)
+left_over text d k e =
+    cond_both (eqb d.1 (length text)) (Ok d.0) (Err (BadText d.1)) (λ r. r ≡ Err (BadText k) → (d.1 ≡ k) × (d.1 ≡ length text → ⊥))
+    (λ whole h. absurd cc) (λ other h. let place : d.1 ≡ k = cc in (place, eqb-false d.1 (length text) other)) e
+
+abbrev front_found : Descriptor → ℕ → Result (Descriptor × ℕ) TextFault
+front_found d at = Ok (d, at)
+
+read_stays : (p u v : List ℕ) (k : ℕ) → k < length p → descriptor_read (p ++ u) ≡ Err (BadText k) → descriptor_read (p ++ v) ≡ Err (BadText k)
+read_stays p u v k lt e =
+    elim (bind_bad (front_of (p ++ u)) (whole_or (p ++ u)) k (sym (read_is (p ++ u)) ∙ e)) [
+      | inl failed ↦
+          let near : reach front_end (front_of (p ++ u)) ≤ length p = subst (λ (r : Result (Descriptor × ℕ) TextFault). reach front_end r ≤ length p) (sym failed) (omega arith) in
+          read_is (p ++ v) ∙ rw (front_stays p u v near ∙ failed) refl
+      | inr x ↦
+          let d = x.0 in
+          let left = left_over (p ++ u) d k x.2 in
+          let near : reach front_end (front_of (p ++ u)) ≤ length p = subst (λ (r : Result (Descriptor × ℕ) TextFault). reach front_end r ≤ length p) (sym x.1) (omega (arith, left.0)) in
+          let more : d.1 ≡ length (p ++ v) → ⊥ = λ (h : d.1 ≡ length (p ++ v)). omega (arith, left.0, length-append p v) in
+          read_is (p ++ v) ∙ rw (front_stays p u v near ∙ x.1, ne_eqb d.1 (length (p ++ v)) more) (ap (λ (n : ℕ). failed_at n) left.0)
+    ]
+
+read_completes : (p u : List ℕ) → descriptor_read (p ++ u) ≡ Err (BadText (length p)) → FrontDone p
+read_completes p u e =
+    elim (bind_bad (front_of (p ++ u)) (whole_or (p ++ u)) (length p) (sym (read_is (p ++ u)) ∙ e)) [
+      | inl failed ↦ front_completes p u failed
+      | inr x ↦
+          let d = x.0 in
+          let left = left_over (p ++ u) d (length p) x.2 in
+          let near : reach front_end (front_of (p ++ u)) ≤ length p = subst (λ (r : Result (Descriptor × ℕ) TextFault). reach front_end r ≤ length p) (sym x.1) (omega (arith, left.0)) in
+          let place : d.1 ≡ length (p ++ []) = omega (arith, left.0, length-append p []) in
+          record { rest = []; found = d.0; reads = front_stays p u [] near ∙ x.1 ∙ ap (front_found d.0) place }
+    ]
+
+read_inside : (text : List ℕ) (k : ℕ) → descriptor_read text ≡ Err (BadText k) → k ≤ length text
+read_inside text k e =
+    elim (bind_bad (front_of text) (whole_or text) k (sym (read_is text) ∙ e)) [
+      | inl failed ↦ (spans_bad front_end 0 (length text) k (front_of text) (front_spans text) failed).1
+      | inr x ↦
+          let left = left_over text x.0 k x.2 in
+          let spans = spans_ok front_end 0 (length text) x.0 (front_of text) (front_spans text) x.1 in
+          omega (arith, left.0, spans.1)
+    ]
+
+not_both : (text : List ℕ) (k : ℕ) → descriptor_read text ≡ Err (BadText k) → IsSomeDescriptor text → ⊥
+not_both text k e is = let bad : read_of is.0 ≡ Err (BadText k) = sym (descriptor_again text is.0 is.1) ∙ e in absurd cc
+
+pub descriptor_bad : (text : List ℕ) (k : ℕ) → descriptor_read text ≡ Err (BadText k) → IsBadAt IsSomeDescriptor text k
+descriptor_bad text k e =
+    let le = read_inside text k e in
+    let size : length (take k text) ≡ k = length-take-le k text le in
+    let cut : descriptor_read (take k text ++ drop k text) ≡ Err (BadText (length (take k text))) =
+      ap descriptor_read (take-append-drop k text) ∙ e ∙ ap (λ (n : ℕ). failed_at n) (sym size) in
+    let done = read_completes (take k text) (drop k text) cut in
+    is_bad IsSomeDescriptor text k le done.rest (done.found, front_stands (take k text ++ done.rest) done.found done.reads) (not_both text k e)
+    (λ lt more is.
+    let longer : length (take (k + 1) text) ≡ k + 1 = length-take-le (k + 1) text (omega arith) in
+    let again : descriptor_read (take (k + 1) text ++ drop (k + 1) text) ≡ Err (BadText k) = ap descriptor_read (take-append-drop (k + 1) text) ∙ e in
+    not_both (take (k + 1) text ++ more) k (read_stays (take (k + 1) text) (drop (k + 1) text) more k (omega arith) again) is)
+
+-- what a call answered
+pub bad_place : (text : List ℕ) (r : Result Descriptor TextFault) → Gives told (λ d. d) r (descriptor_read text) → (at : ℕ) → r ≡ Err (BadText at) → IsBadAt IsSomeDescriptor text at
+bad_place text r given at e = descriptor_bad text at (subst (λ (x : Result Descriptor TextFault). Gives told (λ d. d) x (descriptor_read text)) e given)

@@ -1,5 +1,5 @@
-use Rattle.jl_names.proofs.MethodBad.{FrontDone}
 use Rattle.jl_names.proofs.DescriptorLaws.{is_found, is_only}
+use Rattle.jl_names.proofs.MethodBad.{bad_place}
 use Rattle.jl_names.proofs.spelled.descriptor.Goals as goal
 
 pub returns-clause-found : goal.returns-clause-found
@@ -9,4 +9,4 @@ pub returns-clause-only : goal.returns-clause-only
 returns-clause-only c = is_only c.args.text.now c.whole.result c.whole.ensures
 
 pub returns-clause-bad : goal.returns-clause-bad
-returns-clause-bad c = ?
+returns-clause-bad c = bad_place c.args.text.now c.whole.result c.whole.ensures
