@@ -1,8 +1,8 @@
 -- How far readings look, and where they stop.
-use Rattle.std.proofs.Common.{◌≡◌, ℕ, suc, ◌+◌, ◌≤◌, ◌<◌, List, [], ◌∷◌, ◌++◌, length, take, drop, get_or, slice_index, Result, Ok, Err, refl, sym, ap, subst, ◌∙◌, arith, inl, inr}
+use Rattle.std.proofs.Common.{◌≡◌, ℕ, ◌+◌, ◌≤◌, ◌<◌, List, ◌++◌, length, take, slice_index, Result, Ok, Err, refl, sym, ap, subst, ◌∙◌, arith, inl, inr}
 use Rattle.std.specs.Prelude.{◌⊎◌}
 use Rattle.std.proofs.lemmas.Bool.{cases_lt}
-use Rattle.std.proofs.lemmas.List.{take-append-drop, length-take-le, get_or_append_left, length-append, take-append-le, take_at, drop-append-le}
+use Rattle.std.proofs.lemmas.List.{get_or_append_left, length-append}
 use Rattle.jl_reading.specs.Reading.{◌>>=◌}
 use Rattle.jl_names.specs.Bad.{IsBadAt}
 use Rattle.jl_names.specs.declared.fault.TextFault.{TextFault}
@@ -65,6 +65,15 @@ index_front p u i lt = get_or_append_left p u 0 i lt
 
 pub index_same : (p u v : List ℕ) (i : ℕ) → i < length p → slice_index (p ++ v) i ≡ slice_index (p ++ u) i
 index_same p u v i lt = index_front p v i lt ∙ sym (index_front p u i lt)
+
+pub begun_inside : (p u : List ℕ) (n : ℕ) → n < length p → n < length (p ++ u)
+begun_inside p u n lt = omega (arith, length-append p u)
+
+pub spans_bad : {X : Type 0} (place : X → ℕ) (at len k : ℕ) (r : Result X TextFault) → Spans place at len r → r ≡ Err (BadText k) → (at ≤ k) × (k ≤ len)
+spans_bad place at len k r s e = subst (λ (x : Result _ TextFault). Spans place at len x) e s
+
+pub spans_ok : {X : Type 0} (place : X → ℕ) (at len : ℕ) (x : X) (r : Result X TextFault) → Spans place at len r → r ≡ Ok x → (at < place x) × (place x ≤ len)
+spans_ok place at len x r s e = subst (λ (y : Result _ TextFault). Spans place at len y) e s
 
 -- ---- bad places
 

@@ -1,19 +1,17 @@
 -- Where descriptors stop.
-use Rattle.std.proofs.Common.{◌≡◌, ℕ, zero, suc, ◌+◌, ◌-◌, ◌<◌, ◌≤◌, Bool, true, false, not, cond, ◌&&◌, ◌||◌, ltb, eqb, nat_lt, List, [], ◌∷◌, ◌++◌, length, take, drop, replicate, get_or, slice_index, Option, None, Some, Result, Ok, Err, refl, sym, ap, subst, ◌∙◌, append_assoc, arith, inl, inr}
-use Rattle.std.proofs.lemmas.Bool.{cond_both, ltb-true, ltb-false, lt-ltb, le-ltb, eqb-true, eq-eqb, ne_eqb, and_from, and_right, not-true, not-false, cases_Bool, cases_lt, cases_eq, true≢false, false≢true}
+use Rattle.std.proofs.Common.{◌≡◌, ℕ, ◌+◌, ◌<◌, ◌≤◌, Bool, true, false, not, cond, ◌&&◌, eqb, List, [], ◌∷◌, ◌++◌, length, take, drop, replicate, get_or, slice_index, Result, Ok, Err, refl, sym, ap, subst, ◌∙◌, arith, inl, inr}
+use Rattle.std.proofs.lemmas.Bool.{and_right, cases_Bool, cases_lt}
 use Rattle.std.proofs.lemmas.List.{length-append, length-drop, drop-append-le, take-append-le}
 use Rattle.std.proofs.Math.Seq.{get_or-append_seam}
-use Rattle.jl_reading.specs.Reading.{◌>>=◌, Stands}
-use Rattle.jl_reading.proofs.Steps.{bind_ok, guard_ok, ok_is}
 use Rattle.jl_names.specs.declared.fault.TextFault.{TextFault}
 use Rattle.jl_names.specs.declared.fault.TextFault.TheVariants.{BadText, NoMemory}
 use Rattle.jl_names.specs.declared.types.BaseType.{BaseType}
 use Rattle.jl_names.specs.declared.types.BaseType.TheVariants.{Prim, Class}
 use Rattle.jl_names.specs.declared.types.FieldType.{FieldType}
 use Rattle.jl_names.specs.Names.{stops, is_slash}
-use Rattle.jl_names.specs.Descriptors.{is_primitive, is_wide, slots_of, brackets, name_end, base_at, type_at, StandsType, base_bytes}
-use Rattle.jl_names.proofs.TypeLaws.{brackets_fit, brackets_less, name_more, name_stops, base_read, BaseRead, past, prim, class, other, class_of, base_prim, base_class, base_named, base_other, brackets_same, brackets_kept, typed_of, type_few, type_many, type_from, type_stands, typed}
-use Rattle.jl_names.proofs.BadPlaces.{reach, Spans, spans_reach, spans_from, spans_bind, stays_bind, bind_bad, index_front, index_same}
+use Rattle.jl_names.specs.Descriptors.{is_wide, brackets, name_end, base_at, type_at}
+use Rattle.jl_names.proofs.TypeLaws.{brackets_fit, brackets_less, name_more, name_stops, base_read, past, prim, class, other, class_of, base_prim, base_class, base_named, base_other, brackets_same, brackets_kept, typed_of, type_few, type_many, type_from, typed}
+use Rattle.jl_names.proofs.BadPlaces.{reach, Spans, spans_reach, spans_from, spans_bind, index_same, spans_bad, begun_inside}
 
 -- ---- class names
 
@@ -89,16 +87,10 @@ base_spans text at le =
       | other inside p not_76 is ↦ rw is (omega arith, omega arith)
     ]
 
-pub spans_bad : {X : Type 0} (place : X → ℕ) (at len k : ℕ) (r : Result X TextFault) → Spans place at len r → r ≡ Err (BadText k) → (at ≤ k) × (k ≤ len)
-spans_bad place at len k r s e = subst (λ (x : Result _ TextFault). Spans place at len x) e s
-
 class_reach : (from : ℕ) (r : Result ℕ TextFault) → reach base_end (class_of from r) ≡ reach after r
 class_reach from (Ok end) = refl
 class_reach from (Err (BadText k)) = refl
 class_reach from (Err NoMemory) = refl
-
-pub begun_inside : (p u : List ℕ) (n : ℕ) → n < length p → n < length (p ++ u)
-begun_inside p u n lt = omega (arith, length-append p u)
 
 base_stays : (p u v : List ℕ) (at : ℕ) → at ≤ length (p ++ u) → reach base_end (base_at (p ++ u) at) ≤ length p → base_at (p ++ v) at ≡ base_at (p ++ u) at
 base_stays p u v at le near =

@@ -1,7 +1,7 @@
 -- Descriptors: what is read is spelled so, and what is spelled so is read.
-use Rattle.std.proofs.Common.{◌≡◌, ℕ, zero, suc, ◌+◌, ◌-◌, ◌<◌, ◌≤◌, Bool, true, false, not, cond, ◌&&◌, ◌||◌, ltb, eqb, nat_lt, List, [], ◌∷◌, ◌++◌, length, take, drop, replicate, get_or, slice_index, Option, None, Some, Result, Ok, Err, refl, sym, ap, subst, ◌∙◌, arith, inl, inr}
-use Rattle.std.specs.Prelude.{IsTrue, IfOk}
-use Rattle.std.proofs.lemmas.Bool.{cond_both, ltb-true, ltb-false, lt-ltb, le-ltb, eqb-true, eq-eqb, ne_eqb, and_parts, and_from, and_right, not-true, not-false, or_left, or_right, cases_Bool, true≢false, false≢true}
+use Rattle.std.proofs.Common.{◌≡◌, ℕ, zero, suc, ◌+◌, ◌<◌, ◌≤◌, Bool, true, false, not, cond, ◌||◌, ltb, eqb, List, [], ◌∷◌, ◌++◌, length, replicate, slice_index, Option, None, Some, Result, Ok, Err, refl, sym, ap, subst, ◌∙◌, arith, inl, inr}
+use Rattle.std.specs.Prelude.{IfOk}
+use Rattle.std.proofs.lemmas.Bool.{cond_both, ltb-true, ltb-false, lt-ltb, le-ltb, eqb-true, eq-eqb, ne_eqb, and_parts, and_from, and_right, or_left, or_right, cases_Bool, true≢false}
 use Rattle.std.proofs.lemmas.List.{length-append}
 use Rattle.jl_logic.specs.Answers.{Gives}
 use Rattle.jl_reading.specs.Reading.{◌>>=◌, Stands}
@@ -14,7 +14,7 @@ use Rattle.jl_names.specs.declared.types.FieldType.{FieldType}
 use Rattle.jl_names.specs.declared.types.Descriptor.{Descriptor}
 use Rattle.jl_names.specs.declared.types.Descriptor.TheVariants.{Field, Method}
 use Rattle.jl_names.specs.Text.{told}
-use Rattle.jl_names.specs.Descriptors.{is_primitive, is_wide, slots_of, slots, between, base_bytes, type_bytes, IsBase, StandsType, StandTypes, StandsResult, IsMethod, IsDescriptor, has_at, type_at, param_at, params_at, result_at, method_at, field_at, front_of, whole_or, descriptor_read}
+use Rattle.jl_names.specs.Descriptors.{is_primitive, is_wide, slots_of, slots, between, base_bytes, IsBase, StandsType, StandTypes, StandsResult, IsMethod, IsDescriptor, has_at, type_at, param_at, params_at, result_at, method_at, field_at, front_of, whole_or, descriptor_read}
 use Rattle.jl_names.proofs.TextLaws.{byte_stands, begins}
 use Rattle.jl_names.proofs.TypeLaws.{type_stands, type_again}
 

@@ -8,3 +8,4 @@ pub mod DescriptorLaws
 pub mod BadPlaces
 pub mod DescriptorBad
 pub mod MethodBad
+pub mod TextBad

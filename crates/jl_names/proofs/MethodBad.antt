@@ -1,8 +1,8 @@
 -- Where descriptors of methods, and whole descriptors, stop.
-use Rattle.std.proofs.Common.{◌≡◌, ℕ, zero, suc, ◌+◌, ◌<◌, ◌≤◌, Bool, true, false, not, cond, ltb, eqb, List, [], ◌∷◌, ◌++◌, length, take, drop, get_or, slice_index, Option, None, Some, Result, Ok, Err, refl, sym, ap, subst, ◌∙◌, append_assoc, arith, inl, inr}
+use Rattle.std.proofs.Common.{◌≡◌, ℕ, zero, suc, ◌+◌, ◌<◌, ◌≤◌, true, false, cond, ltb, eqb, List, [], ◌∷◌, ◌++◌, length, take, drop, get_or, Option, None, Some, Result, Ok, Err, refl, sym, ap, subst, ◌∙◌, arith, inl, inr}
 use Rattle.std.specs.Prelude.{◌⊎◌}
 use Rattle.std.proofs.Math.Seq.{get_or-append_seam}
-use Rattle.std.proofs.lemmas.Bool.{cond_both, ltb-true, ltb-false, lt-ltb, le-ltb, eqb-true, eqb-false, ne_eqb, and_parts, cases_Bool, cases_lt, cases_eq}
+use Rattle.std.proofs.lemmas.Bool.{cond_both, ltb-true, lt-ltb, le-ltb, eqb-true, eqb-false, ne_eqb, and_parts, cases_Bool, cases_lt}
 use Rattle.std.proofs.lemmas.List.{length-append, length-take-le, get_or-append-add, take-append-drop, append-nil}
 use Rattle.jl_logic.specs.Answers.{Gives}
 use Rattle.jl_reading.specs.Reading.{◌>>=◌, Stands}
@@ -15,11 +15,11 @@ use Rattle.jl_names.specs.declared.types.BaseType.TheVariants.{Prim, Class}
 use Rattle.jl_names.specs.declared.types.FieldType.{FieldType}
 use Rattle.jl_names.specs.declared.types.Descriptor.{Descriptor}
 use Rattle.jl_names.specs.declared.types.Descriptor.TheVariants.{Field, Method}
-use Rattle.jl_names.specs.Descriptors.{is_wide, slots_of, base_bytes, type_bytes, StandsType, has_at, type_at, param_at, params_at, result_at, method_at, field_at, front_of, whole_or, descriptor_read, IsSomeDescriptor, IsDescriptor}
+use Rattle.jl_names.specs.Descriptors.{is_wide, slots_of, type_bytes, StandsType, has_at, type_at, param_at, params_at, result_at, method_at, field_at, front_of, whole_or, descriptor_read, IsSomeDescriptor}
 use Rattle.jl_names.proofs.TypeLaws.{type_stands, typed}
 use Rattle.jl_names.proofs.DescriptorLaws.{has_from, has_parts, type_not, param_stands, closed_here, param_first, result_again, front_method, front_field, front_stands, descriptor_again}
-use Rattle.jl_names.proofs.BadPlaces.{reach, Spans, spans_reach, spans_from, spans_bind, stays_bind, bind_bad, index_same, is_bad}
-use Rattle.jl_names.proofs.DescriptorBad.{type_end, type_spans, type_stays, type_completes, Completes, spans_bad, begun_inside}
+use Rattle.jl_names.proofs.BadPlaces.{reach, Spans, spans_reach, spans_from, spans_bind, stays_bind, bind_bad, index_same, spans_bad, spans_ok, begun_inside, is_bad}
+use Rattle.jl_names.proofs.DescriptorBad.{type_end, type_spans, type_stays, type_completes, Completes}
 
 -- ---- a parameter
 
@@ -122,9 +122,6 @@ params_spans (suc m) taken text at le enough =
           (spans_from close_end at t.1 (length text) (params_at m (taken + slots_of t.0) text t.1) (omega arith) (params_spans m (taken + slots_of t.0) text t.1 within (omega arith)))
           (λ ts h past inside. (past, inside))))
     ]
-
-spans_ok : {X : Type 0} (place : X → ℕ) (at len : ℕ) (x : X) (r : Result X TextFault) → Spans place at len r → r ≡ Ok x → (at < place x) × (place x ≤ len)
-spans_ok place at len x r s e = subst (λ (y : Result _ TextFault). Spans place at len y) e s
 
 has_same : (p u v : List ℕ) (at b : ℕ) → at < length p → has_at (p ++ v) at b ≡ has_at (p ++ u) at b
 has_same p u v at b lt = rw (lt-ltb at (length (p ++ v)) (begun_inside p v at lt), lt-ltb at (length (p ++ u)) (begun_inside p u at lt), index_same p u v at lt) refl

@@ -1,8 +1,7 @@
 -- Types in descriptors: what is read is spelled so, and what is spelled so is read.
-use Rattle.std.proofs.Common.{◌≡◌, ℕ, zero, suc, ◌+◌, ◌-◌, ◌<◌, ◌≤◌, Bool, true, false, not, cond, ◌&&◌, ◌||◌, ltb, eqb, nat_lt, List, [], ◌∷◌, ◌++◌, length, take, drop, replicate, get_or, slice_index, Result, Ok, Err, refl, sym, ap, subst, ◌∙◌, append_assoc, arith, inl, inr}
-use Rattle.std.specs.Prelude.{IsTrue}
-use Rattle.std.proofs.lemmas.Bool.{cond_both, ltb-true, ltb-false, lt-ltb, le-ltb, eqb-true, eqb-false, eq-eqb, ne_eqb, and_parts, not-false, not-true, or_parts, cases_eq, cases_lt, cases_Bool, true≢false, false≢true, or_cases, and_right}
-use Rattle.std.proofs.lemmas.List.{drop_more, get_or-drop, take_all, take_at, length-append, length-take, length-drop, take-append-drop, drop-append-le, take-append-le, get_or_append_left}
+use Rattle.std.proofs.Common.{◌≡◌, ℕ, zero, suc, ◌+◌, ◌-◌, ◌<◌, ◌≤◌, Bool, true, false, not, cond, ◌&&◌, ◌||◌, ltb, eqb, List, [], ◌∷◌, ◌++◌, length, take, drop, replicate, get_or, slice_index, Result, Ok, Err, refl, sym, ap, subst, ◌∙◌, append_assoc, arith, inl, inr}
+use Rattle.std.proofs.lemmas.Bool.{cond_both, ltb-false, lt-ltb, le-ltb, eq-eqb, ne_eqb, or_parts, cases_eq, cases_lt, cases_Bool, true≢false, false≢true, or_cases, and_right}
+use Rattle.std.proofs.lemmas.List.{drop_more, get_or-drop, take_at, length-append, length-take, length-drop, take-append-drop}
 use Rattle.std.proofs.Math.ListN.{length-replicate}
 use Rattle.jl_reading.specs.Reading.{◌>>=◌, Stands}
 use Rattle.jl_reading.proofs.Steps.{bind_ok, guard_ok, ok_is}
@@ -13,7 +12,7 @@ use Rattle.jl_names.specs.declared.types.BaseType.{BaseType}
 use Rattle.jl_names.specs.declared.types.BaseType.TheVariants.{Prim, Class}
 use Rattle.jl_names.specs.declared.types.FieldType.{FieldType}
 use Rattle.jl_names.specs.Names.{stops, is_slash, is_reserved, names_a_class}
-use Rattle.jl_names.specs.Descriptors.{is_primitive, between, base_bytes, type_bytes, IsBase, StandsType, has_at, brackets, name_end, base_at, type_at}
+use Rattle.jl_names.specs.Descriptors.{is_primitive, between, base_bytes, IsBase, StandsType, brackets, name_end, base_at, type_at}
 use Rattle.jl_names.proofs.NameLaws.{goes_on, class_step, class_end, class_first}
 use Rattle.jl_names.proofs.TextLaws.{byte_stands, begins}
 

@@ -1,6 +1,5 @@
 use Rattle.std.proofs.Common.{sym, ◌∙◌}
 use Rattle.std.proofs.lemmas.Result.{err_from_is_err_and}
-use Rattle.std.proofs.lemmas.Bool.{not-true, not-false}
 use Rattle.jl_names.proofs.ParamsLoop.{reads_first, reads_more, reads_fault, reads_all}
 use Rattle.jl_names.proofs.spelled.params_at.Goals as goal
 
