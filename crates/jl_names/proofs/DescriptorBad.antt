@@ -144,12 +144,12 @@ class_completes p u at inside here e =
     let behind : at + 1 ≤ length p = spans.0 in
     let size : length p ≡ (at + 1) + length (drop (at + 1) p) = omega (arith, length-drop (at + 1) p) in
     let cut : name_end true (drop (at + 1) p ++ u) (at + 1) ≡ Err (BadText (length p)) =
-      subst (λ (l : List ℕ). name_end true l (at + 1) ≡ Err (BadText (length p))) (drop-append-le (at + 1) p u behind) failed in
+    subst (λ (l : List ℕ). name_end true l (at + 1) ≡ Err (BadText (length p))) (drop-append-le (at + 1) p u behind) failed in
     let reads = λ (tail : List ℕ).
-      let read : name_end true (drop (at + 1) (p ++ a_name tail)) (at + 1) ≡ Ok (length p + 1) =
-        subst (λ (l : List ℕ). name_end true l (at + 1) ≡ Ok (length p + 1)) (sym (drop-append-le (at + 1) p (a_name tail) behind)) (name_completes true (drop (at + 1) p) u tail (at + 1) (length p) size cut) in
-      base_class (p ++ a_name tail) at (at + 1) (length p + 1) (length p + 2) (omega (arith, length-append p (a_name tail)))
-      (index_same p u (a_name tail) at (omega arith) ∙ here) refl (omega arith) read in
+    let read : name_end true (drop (at + 1) (p ++ a_name tail)) (at + 1) ≡ Ok (length p + 1) =
+    subst (λ (l : List ℕ). name_end true l (at + 1) ≡ Ok (length p + 1)) (sym (drop-append-le (at + 1) p (a_name tail) behind)) (name_completes true (drop (at + 1) p) u tail (at + 1) (length p) size cut) in
+    base_class (p ++ a_name tail) at (at + 1) (length p + 1) (length p + 2) (omega (arith, length-append p (a_name tail)))
+    (index_same p u (a_name tail) at (omega arith) ∙ here) refl (omega arith) read in
     record { done = record { rest = 97 ∷ 59 ∷ []; found = Class (at + 1) (length p + 1); reads = reads }; narrow = refl }
 
 base_completes : (p u : List ℕ) (at : ℕ) → at ≤ length (p ++ u) → base_at (p ++ u) at ≡ Err (BadText (length p)) → BaseDone p at
@@ -241,13 +241,13 @@ bad_type k = Err (BadText k)
 -- a type whose base is completed
 based : (p u : List ℕ) (at d : ℕ) → d < 256 → at + d ≤ length p → take d (drop at (p ++ u)) ≡ replicate d 91 → BaseDone p (at + d) → TypeDone p at
 based p u at d less le all b = record {
-      done = record {
-        rest = b.done.rest;
-        found = typed d b.done.found;
-        reads = λ tail. type_from (p ++ (b.done.rest ++ tail)) at d b.done.found (length p + length b.done.rest) less (front_brackets p u (b.done.rest ++ tail) at d le all) (b.done.reads tail);
-      };
-      narrow = narrow_array d b.done.found b.narrow;
-    }
+  done = record {
+    rest = b.done.rest;
+    found = typed d b.done.found;
+    reads = λ tail. type_from (p ++ (b.done.rest ++ tail)) at d b.done.found (length p + length b.done.rest) less (front_brackets p u (b.done.rest ++ tail) at d le all) (b.done.reads tail);
+  };
+  narrow = narrow_array d b.done.found b.narrow;
+}
 
 pub type_completes : (p u : List ℕ) (at : ℕ) → at ≤ length (p ++ u) → type_at (p ++ u) at ≡ Err (BadText (length p)) → TypeDone p at
 type_completes p u at le e =

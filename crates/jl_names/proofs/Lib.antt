@@ -9,3 +9,4 @@ pub mod BadPlaces
 pub mod DescriptorBad
 pub mod MethodBad
 pub mod TextBad
+pub mod Rows

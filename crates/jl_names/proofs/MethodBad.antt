@@ -63,7 +63,7 @@ param_stays taken p u v at le near =
           ∙ stays_bind type_end type_end (length p) (type_at (p ++ u) at) (type_at (p ++ v) at) (fitting taken at) (fitting taken at) (type_stays p u v at le)
           (λ t e close.
           let place : t.1 ≤ length p = cond_both (ltb 255 (taken + slots_of t.0)) (Err (BadText at)) (Ok t) (λ r. reach type_end r ≤ length p → t.1 ≤ length p)
-            (λ much h. let more = ltb-true 255 (taken + slots_of t.0) much in let short = two_slots (p ++ u) at t.0 t.1 (omega arith) (type_stands (p ++ u) at t.0 t.1 le e) in omega arith) (λ fine h. h) close in
+          (λ much h. let more = ltb-true 255 (taken + slots_of t.0) much in let short = two_slots (p ++ u) at t.0 t.1 (omega arith) (type_stands (p ++ u) at t.0 t.1 le e) in omega arith) (λ fine h. h) close in
           (place, refl)) near_tried
           ∙ sym (param_tried taken (p ++ u) at less)
     ]
@@ -80,11 +80,11 @@ param_completes taken p u at le e =
     elim (cases_lt taken 255) [
       | inr full ↦ let same : bad_param at ≡ bad_param (length p) = sym (param_full taken (p ++ u) at full) ∙ e in inl cc
       | inl less ↦ elim (bind_bad (type_at (p ++ u) at) (fitting taken at) (length p) (sym (param_tried taken (p ++ u) at less) ∙ e)) [
-          | inl failed ↦
-              let t = type_completes p u at le failed in
-              inr (record { rest = t.done.rest; found = t.done.found; reads = λ tail. param_narrow taken (p ++ (t.done.rest ++ tail)) at t.done.found (length p + length t.done.rest) less t.narrow (t.done.reads tail) })
-          | inr x ↦ inl (cond_both (ltb 255 (taken + slots_of x.0.0)) (Err (BadText at)) (Ok x.0) (λ r. r ≡ Err (BadText (length p)) → at ≡ length p) (λ much h. cc) (λ fine h. absurd cc) x.2)
-        ]
+        | inl failed ↦
+            let t = type_completes p u at le failed in
+            inr (record { rest = t.done.rest; found = t.done.found; reads = λ tail. param_narrow taken (p ++ (t.done.rest ++ tail)) at t.done.found (length p + length t.done.rest) less t.narrow (t.done.reads tail) })
+        | inr x ↦ inl (cond_both (ltb 255 (taken + slots_of x.0.0)) (Err (BadText at)) (Ok x.0) (λ r. r ≡ Err (BadText (length p)) → at ≡ length p) (λ much h. cc) (λ fine h. absurd cc) x.2)
+      ]
     ]
 
 -- ---- parameters
@@ -138,7 +138,7 @@ params_stays (suc m) (suc again) taken p u v at le enough more near =
       | inl closes ↦ closed_here (suc again) taken (p ++ v) at (same ∙ closes) ∙ sym (closed_here (suc m) taken (p ++ u) at closes)
       | inr still ↦
           let close : reach close_end (param_at taken (p ++ u) at >>= params_behind m taken (p ++ u)) ≤ length p =
-            subst (λ (r : Result (List FieldType × ℕ) TextFault). reach close_end r ≤ length p) (params_more m taken (p ++ u) at still) near in
+          subst (λ (r : Result (List FieldType × ℕ) TextFault). reach close_end r ≤ length p) (params_more m taken (p ++ u) at still) near in
           params_more again taken (p ++ v) at (same ∙ still)
           ∙ stays_bind type_end close_end (length p) (param_at taken (p ++ u) at) (param_at taken (p ++ v) at) (params_behind m taken (p ++ u)) (params_behind again taken (p ++ v)) (param_stays taken p u v at le)
           (λ t e far.
@@ -171,8 +171,8 @@ closed_at_end p taken at e = record {
   rest = [];
   found = [];
   reads = λ tail m enough.
-    let place : length p + 0 ≡ at = omega arith in
-    closed_here m taken (p ++ 41 ∷ tail) at (subst (λ (n : ℕ). has_at (p ++ 41 ∷ tail) n 41 ≡ true) place (close_stands p [] tail)) ∙ ap (params_of []) (sym place);
+      let place : length p + 0 ≡ at = omega arith in
+      closed_here m taken (p ++ 41 ∷ tail) at (subst (λ (n : ℕ). has_at (p ++ 41 ∷ tail) n 41 ≡ true) place (close_stands p [] tail)) ∙ ap (params_of []) (sym place);
 }
 
 param_opens : (taken : ℕ) (text : List ℕ) (at : ℕ) (t : FieldType) (next : ℕ) → at ≤ length text → param_at taken text at ≡ Ok (t, next) → has_at text at 41 ≡ false
@@ -203,20 +203,20 @@ params_completes (suc m) taken p u at le enough e =
     elim (cases_Bool (has_at (p ++ u) at 41)) [
       | inl closes ↦ let bad : params_of [] at ≡ Err (BadText (length p)) = sym (closed_here (suc m) taken (p ++ u) at closes) ∙ e in absurd cc
       | inr still ↦ elim (bind_bad (param_at taken (p ++ u) at) (params_behind m taken (p ++ u)) (length p) (sym (params_more m taken (p ++ u) at still) ∙ e)) [
-          | inl failed ↦ elim (param_completes taken p u at le failed) [
-              | inl place ↦ closed_at_end p taken at place
-              | inr c ↦ record { rest = c.rest; found = c.found ∷ []; reads = last_param p c.rest taken at c.found begun.0 c.reads }
-            ]
-          | inr x ↦
-              let t = x.0 in
-              let place = spans_ok type_end at (length (p ++ u)) t (param_at taken (p ++ u) at) (param_spans taken (p ++ u) at le) x.1 in
-              let rest = params_at m (taken + slots_of t.0) (p ++ u) t.1 in
-              let failed : rest ≡ Err (BadText (length p)) = behind_bad t.0 (length p) rest x.2 in
-              let before = spans_bad close_end t.1 (length (p ++ u)) (length p) rest (params_spans m (taken + slots_of t.0) (p ++ u) t.1 place.1 (omega (arith, place.0))) failed in
-              let near : reach type_end (param_at taken (p ++ u) at) ≤ length p = subst (λ (r : Result (FieldType × ℕ) TextFault). reach type_end r ≤ length p) (sym x.1) before.0 in
-              one_more p taken at t.0 t.1 begun.0 place.0 (λ w. param_stays taken p u w at le near ∙ x.1)
-              (params_completes m (taken + slots_of t.0) p u t.1 place.1 (omega (arith, place.0)) failed)
+        | inl failed ↦ elim (param_completes taken p u at le failed) [
+          | inl place ↦ closed_at_end p taken at place
+          | inr c ↦ record { rest = c.rest; found = c.found ∷ []; reads = last_param p c.rest taken at c.found begun.0 c.reads }
         ]
+        | inr x ↦
+            let t = x.0 in
+            let place = spans_ok type_end at (length (p ++ u)) t (param_at taken (p ++ u) at) (param_spans taken (p ++ u) at le) x.1 in
+            let rest = params_at m (taken + slots_of t.0) (p ++ u) t.1 in
+            let failed : rest ≡ Err (BadText (length p)) = behind_bad t.0 (length p) rest x.2 in
+            let before = spans_bad close_end t.1 (length (p ++ u)) (length p) rest (params_spans m (taken + slots_of t.0) (p ++ u) t.1 place.1 (omega (arith, place.0))) failed in
+            let near : reach type_end (param_at taken (p ++ u) at) ≤ length p = subst (λ (r : Result (FieldType × ℕ) TextFault). reach type_end r ≤ length p) (sym x.1) before.0 in
+            one_more p taken at t.0 t.1 begun.0 place.0 (λ w. param_stays taken p u w at le near ∙ x.1)
+            (params_completes m (taken + slots_of t.0) p u t.1 place.1 (omega (arith, place.0)) failed)
+      ]
     ]
 
 -- ---- results
@@ -262,7 +262,7 @@ result_stays p u v at le near =
       | inl void ↦ result_void (p ++ v) at (same ∙ void) ∙ sym (result_void (p ++ u) at void)
       | inr other ↦
           let close : reach type_end (type_at (p ++ u) at) ≤ length p =
-            subst (λ (n : ℕ). n ≤ length p) (ap (reach result_end) (result_typed (p ++ u) at other) ∙ some_reach (type_at (p ++ u) at)) near in
+          subst (λ (n : ℕ). n ≤ length p) (ap (reach result_end) (result_typed (p ++ u) at other) ∙ some_reach (type_at (p ++ u) at)) near in
           result_typed (p ++ v) at (same ∙ other) ∙ ap some_of (type_stays p u v at le close) ∙ sym (result_typed (p ++ u) at other)
     ]
 
@@ -278,7 +278,7 @@ result_completes p u at le e =
             rest = t.done.rest;
             found = Some t.done.found;
             reads = λ tail. result_again (p ++ (t.done.rest ++ tail)) at (Some t.done.found) (length p + length t.done.rest)
-              (type_stands (p ++ (t.done.rest ++ tail)) at t.done.found (length p + length t.done.rest) (omega (arith, length-append p (t.done.rest ++ tail))) (t.done.reads tail));
+                (type_stands (p ++ (t.done.rest ++ tail)) at t.done.found (length p + length t.done.rest) (omega (arith, length-append p (t.done.rest ++ tail))) (t.done.reads tail));
           }
     ]
 
@@ -355,7 +355,7 @@ method_completes p u opens e =
             rest = end;
             found = Method d.found None;
             reads = front_method text d.found close None (length text) (has_same p u end 0 40 begun.0 ∙ opens) (d.reads (86 ∷ []) (length text) (omega arith))
-              (result_void text (close + 1) (has_from text (close + 1) 86 (omega arith) last) ∙ ap (result_of None) (omega arith));
+                (result_void text (close + 1) (has_from text (close + 1) 86 (omega arith) last) ∙ ap (result_of None) (omega arith));
           }
       | inr x ↦
           let ts = x.0 in
@@ -366,12 +366,12 @@ method_completes p u opens e =
           let text = p ++ c.rest in
           let near : reach close_end (params_at (length (p ++ u)) 0 (p ++ u) 1) ≤ length p = subst (λ (r : Result (List FieldType × ℕ) TextFault). reach close_end r ≤ length p) (sym x.1) begun.0 in
           let result : result_at text (ts.1 + 1) ≡ Ok (c.found, length text) =
-            subst (λ (l : List ℕ). result_at (p ++ l) (ts.1 + 1) ≡ Ok (c.found, length p + length c.rest)) (append-nil c.rest) (c.reads []) ∙ ap (result_of c.found) (sym (length-append p c.rest)) in
+          subst (λ (l : List ℕ). result_at (p ++ l) (ts.1 + 1) ≡ Ok (c.found, length p + length c.rest)) (append-nil c.rest) (c.reads []) ∙ ap (result_of c.found) (sym (length-append p c.rest)) in
           record {
             rest = c.rest;
             found = Method ts.0 c.found;
             reads = front_method text ts.0 ts.1 c.found (length text) (has_same p u c.rest 0 40 (omega (arith, begun.0)) ∙ opens)
-              (params_stays (length (p ++ u)) (length text) 0 p u c.rest 1 le (omega arith) (omega arith) near ∙ x.1) result;
+                (params_stays (length (p ++ u)) (length text) 0 p u c.rest 1 le (omega arith) (omega arith) near ∙ x.1) result;
           }
     ]
 
@@ -513,7 +513,7 @@ descriptor_bad text k e =
     let le = read_inside text k e in
     let size : length (take k text) ≡ k = length-take-le k text le in
     let cut : descriptor_read (take k text ++ drop k text) ≡ Err (BadText (length (take k text))) =
-      ap descriptor_read (take-append-drop k text) ∙ e ∙ ap (λ (n : ℕ). failed_at n) (sym size) in
+    ap descriptor_read (take-append-drop k text) ∙ e ∙ ap (λ (n : ℕ). failed_at n) (sym size) in
     let done = read_completes (take k text) (drop k text) cut in
     is_bad IsSomeDescriptor text k le done.rest (done.found, front_stands (take k text ++ done.rest) done.found done.reads) (not_both text k e)
     (λ lt more is.

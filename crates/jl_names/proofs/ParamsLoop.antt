@@ -52,7 +52,7 @@ reads_more text front taken at t next r open_still read past within few =
       few = few;
       within = within;
       rest = more_read (r.fuel - 1) text front taken at t next (params_at (length text) 0 text 1) open_still read
-        (subst (λ (n : ℕ). with_front front (params_at n taken text at) ≡ params_at (length text) 0 text 1) k r.rest);
+          (subst (λ (n : ℕ). with_front front (params_at n taken text at) ≡ params_at (length text) 0 text 1) k r.rest);
     }
 
 stopped : (fuel : ℕ) (text : List ℕ) (front : List FieldType) (taken at : ℕ) (e : TextFault) → has_at text at 41 ≡ false → param_at taken text at ≡ Err e

@@ -41,20 +41,20 @@ unit_read bytes at =
     elim (cases_Bool (ascii b)) [
       | inl a ↦ one a
       | inr a ↦ elim (cases_Bool (begins_two b || begins_three b)) [
-          | inr n ↦ none a n
-          | inl begun ↦ elim (cases_Bool (goes_on bytes at)) [
-              | inr n ↦ no_second a begun n
-              | inl second ↦ elim (cases_Bool (begins_two b)) [
-                  | inl is_two ↦ two a is_two second
-                  | inr not_two ↦
-                      let is_three : begins_three b ≡ true = (rw not_two at begun) in
-                      elim (cases_Bool (ends_on bytes at)) [
-                        | inl third ↦ three a not_two is_three second third
-                        | inr n ↦ no_third a not_two is_three second n
-                      ]
+        | inr n ↦ none a n
+        | inl begun ↦ elim (cases_Bool (goes_on bytes at)) [
+          | inr n ↦ no_second a begun n
+          | inl second ↦ elim (cases_Bool (begins_two b)) [
+            | inl is_two ↦ two a is_two second
+            | inr not_two ↦
+                let is_three : begins_three b ≡ true = (rw not_two at begun) in
+                elim (cases_Bool (ends_on bytes at)) [
+                  | inl third ↦ three a not_two is_three second third
+                  | inr n ↦ no_third a not_two is_three second n
                 ]
-            ]
+          ]
         ]
+      ]
     ]
 
 none_read : (bytes : List ℕ) (at b : ℕ) → slice_index bytes at ≡ b → ascii b ≡ false → (begins_two b || begins_three b) ≡ false → unit_at bytes at ≡ Err (BadText at)
@@ -161,12 +161,12 @@ two_follow b begun =
     elim (cases_eq b 192) [
       | inl is ↦ rw is refl
       | inr not_192 ↦ elim (or_cases (eqb b 192) (leb 194 b && ltb b 224) begun) [
-          | inl e ↦ absurd (not_192 (eqb-true b 192 e))
-          | inr e ↦
-              let r = between 194 224 b e in
-              let not_224 : b ≡ 224 → ⊥ = λ (h : b ≡ 224). omega (arith, r.1) in
-              rw (ne_eqb b 192 not_192, ne_eqb b 224 not_224) refl
-        ]
+        | inl e ↦ absurd (not_192 (eqb-true b 192 e))
+        | inr e ↦
+            let r = between 194 224 b e in
+            let not_224 : b ≡ 224 → ⊥ = λ (h : b ≡ 224). omega (arith, r.1) in
+            rw (ne_eqb b 192 not_192, ne_eqb b 224 not_224) refl
+      ]
     ]
 
 three_follow : (b : ℕ) → begins_three b ≡ true → may_follow b 160 ≡ true
@@ -236,7 +236,7 @@ three_done p u at place a not_two is_three =
       small = bytes_cons 160 (128 ∷ []) (omega arith) (bytes_cons 128 [] (omega arith) bytes_none);
       found = (b - 224) * 4096 + (160 - 128) * 64 + (128 - 128);
       reads = three_read (p ++ rest) at b 160 128 (index_same p u rest at (omega arith)) (seam p (128 ∷ []) 160 (at + 1) place) last (omega arith) a not_two is_three (three_follow b is_three) refl
-        ∙ ap (unit_found ((b - 224) * 4096 + (160 - 128) * 64 + (128 - 128))) end;
+          ∙ ap (unit_found ((b - 224) * 4096 + (160 - 128) * 64 + (128 - 128))) end;
       inside = omega arith;
     }
 
@@ -254,7 +254,7 @@ last_done p u at place a not_two is_three second =
       small = bytes_cons 128 [] (omega arith) bytes_none;
       found = (b - 224) * 4096 + (c - 128) * 64 + (128 - 128);
       reads = three_read (p ++ rest) at b c 128 (index_same p u rest at (omega arith)) (index_same p u rest (at + 1) (omega arith)) (seam p [] 128 (at + 2) place) (omega arith) a not_two is_three follows.1 refl
-        ∙ ap (unit_found ((b - 224) * 4096 + (c - 128) * 64 + (128 - 128))) end;
+          ∙ ap (unit_found ((b - 224) * 4096 + (c - 128) * 64 + (128 - 128))) end;
       inside = omega arith;
     }
 
@@ -324,11 +324,11 @@ units_cut n bytes at k e =
     elim (cases_lt at (length bytes)) [
       | inr le ↦ let bad : units_found_as [] ≡ Err (BadText k) = sym (units_past (suc n) bytes at le) ∙ e in absurd cc
       | inl lt ↦ elim (bind_bad (unit_at bytes at) (units_behind n bytes) k (sym (units_more n bytes at lt) ∙ e)) [
-          | inl failed ↦ first lt failed
-          | inr x ↦
-              let place = spans_ok unit_end at (length bytes) x.0 (unit_at bytes at) (unit_spans bytes at lt) x.1 in
-              later x.0.0 x.0.1 lt x.1 place.0 place.1 (behind_bad x.0.0 k (units_from n bytes x.0.1) x.2)
-        ]
+        | inl failed ↦ first lt failed
+        | inr x ↦
+            let place = spans_ok unit_end at (length bytes) x.0 (unit_at bytes at) (unit_spans bytes at lt) x.1 in
+            later x.0.0 x.0.1 lt x.1 place.0 place.1 (behind_bad x.0.0 k (units_from n bytes x.0.1) x.2)
+      ]
     ]
 
 units_within : (n : ℕ) (bytes : List ℕ) (at k : ℕ) → units_from n bytes at ≡ Err (BadText k) → (at ≤ k) × (k ≤ length bytes)
@@ -371,14 +371,14 @@ units_complete zero p u at e = let bad : units_found_as [] ≡ Err (BadText (len
 units_complete (suc n) p u at e =
     elim (units_cut n (p ++ u) at (length p) e) [
       | first inside failed ↦ elim (unit_completes p u at failed) [
-          | inl place ↦ record { rest = []; small = bytes_none; found = []; reads = λ m enough. units_past m (p ++ []) at (omega (arith, length-append p [])) }
-          | inr d ↦ record {
-              rest = d.rest;
-              small = d.small;
-              found = d.found ∷ [];
-              reads = one_more p d.rest [] at d.found (length (p ++ d.rest)) d.inside (begun_inside p d.rest at d.inside) d.reads (λ m enough. units_past m (p ++ d.rest) (length (p ++ d.rest)) (omega arith));
-            }
-        ]
+        | inl place ↦ record { rest = []; small = bytes_none; found = []; reads = λ m enough. units_past m (p ++ []) at (omega (arith, length-append p [])) }
+        | inr d ↦ record {
+          rest = d.rest;
+          small = d.small;
+          found = d.found ∷ [];
+          reads = one_more p d.rest [] at d.found (length (p ++ d.rest)) d.inside (begun_inside p d.rest at d.inside) d.reads (λ m enough. units_past m (p ++ d.rest) (length (p ++ d.rest)) (omega arith));
+        }
+      ]
       | later x next inside read past within failed ↦
           let before = units_within n (p ++ u) next (length p) failed in
           let near : Near p (unit_at (p ++ u) at) = subst (Near p) (sym read) before.0 in
@@ -408,7 +408,7 @@ units_bad bytes k fits e =
     let p = take k bytes in
     let size : length p ≡ k = length-take-le k bytes le in
     let cut : units_from (length bytes) (p ++ drop k bytes) 0 ≡ Err (BadText (length p)) =
-      ap (λ (l : List ℕ). units_from (length bytes) l 0) (take-append-drop k bytes) ∙ begun ∙ ap (λ (n : ℕ). failed_at n) (sym size) in
+    ap (λ (l : List ℕ). units_from (length bytes) l 0) (take-append-drop k bytes) ∙ begun ∙ ap (λ (n : ℕ). failed_at n) (sym size) in
     let done = units_complete (length bytes) p (drop k bytes) 0 cut in
     let whole : units_read (p ++ done.rest) ≡ Ok done.found = read_is (p ++ done.rest) ∙ done.reads (length (p ++ done.rest)) (omega arith) in
     let found = units_found (p ++ done.rest) done.found (bytes_both p done.rest (IsBytes-take k bytes fits) done.small) whole in

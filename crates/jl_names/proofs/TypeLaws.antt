@@ -131,6 +131,7 @@ name_stops fresh b bs at wrong =
     by_fresh : (fresh : Bool) → cond fresh (Err (BadText at)) (Ok at) ≡ cond (not fresh) (Ok at) (Err (BadText at))
     by_fresh true = refl
     by_fresh false = refl
+
     by_slash : (fresh : Bool) → eqb b 59 ≡ false → stops b (not fresh) ≡ true
         → cond (is_slash b) (cond fresh (Err (BadText at)) (name_end true bs (at + 1))) (cond ((eqb b 46) || (eqb b 91)) (Err (BadText at)) (name_end false bs (at + 1))) ≡ Err (BadText at)
     by_slash fresh no_end h =
@@ -207,12 +208,12 @@ base_read text at =
     elim (cases_lt at (length text)) [
       | inr out ↦ past out (rw (le-ltb at (length text) out) refl)
       | inl inside ↦ elim (cases_Bool (is_primitive (slice_index text at))) [
-          | inl p ↦ prim inside p (rw (lt-ltb at (length text) inside, p) refl)
-          | inr p ↦ elim (cases_eq (slice_index text at) 76) [
-              | inl is ↦ class inside is (rw (lt-ltb at (length text) inside, is) refl)
-              | inr not_76 ↦ other inside p not_76 (rw (lt-ltb at (length text) inside, p, ne_eqb (slice_index text at) 76 not_76) refl)
-            ]
+        | inl p ↦ prim inside p (rw (lt-ltb at (length text) inside, p) refl)
+        | inr p ↦ elim (cases_eq (slice_index text at) 76) [
+          | inl is ↦ class inside is (rw (lt-ltb at (length text) inside, is) refl)
+          | inr not_76 ↦ other inside p not_76 (rw (lt-ltb at (length text) inside, p, ne_eqb (slice_index text at) 76 not_76) refl)
         ]
+      ]
     ]
 
 pub base_named : (text : List ℕ) (at : ℕ) → at < length text → slice_index text at ≡ 76 → base_at text at ≡ class_of (at + 1) (name_end true (drop (at + 1) text) (at + 1))
@@ -239,7 +240,7 @@ class_stands text at end inside here f =
     let spelled : between text (at + 1) end ≡ f.name = rw ends (between_is text (at + 1) f.name (59 ∷ f.rest) f.parts) in
     let right : names_a_class f.name ≡ true = sym (class_first f.name) ∙ f.right in
     let parts : drop at text ≡ (76 ∷ f.name ++ 59 ∷ []) ++ f.rest =
-      drop_more text at 0 inside ∙ rw (here, f.parts) (sym (append_assoc (76 ∷ f.name) (59 ∷ []) f.rest)) in
+    drop_more text at 0 inside ∙ rw (here, f.parts) (sym (append_assoc (76 ∷ f.name) (59 ∷ []) f.rest)) in
     let long : length (76 ∷ f.name ++ 59 ∷ []) ≡ suc (length f.name + 1) = ap suc (length-append f.name (59 ∷ [])) in
     let stands : Stands text at (76 ∷ f.name ++ 59 ∷ []) (end + 1) = Stands-from_parts text at (76 ∷ f.name ++ 59 ∷ []) f.rest (end + 1) parts (omega arith) (omega (arith, length-drop (at + 1) text)) in
     ((refl, omega arith, omega (arith, length-drop (at + 1) text), rw spelled right), rw spelled stands)
@@ -276,7 +277,7 @@ base_again text at (Class from to) next is s =
     let size : length name ≡ to - from = omega (arith, length-take (to - from) (drop from text), length-drop from text, is.1, is.2) in
     let parts : drop (at + 1) text ≡ name ++ 59 ∷ drop next text = Stands-parts text (at + 1) (name ++ 59 ∷ []) next p.rest ∙ append_assoc name (59 ∷ []) (drop next text) in
     let read : name_end true (drop (at + 1) text) (at + 1) ≡ Ok (at + 1 + length name) =
-      rw parts (name_again true name (drop next text) (at + 1) (class_first name ∙ is.3)) in
+    rw parts (name_again true name (drop next text) (at + 1) (class_first name ∙ is.3)) in
     let end : at + 1 + length name ≡ to = omega (arith, is.1) in
     let ends : to + 1 ≡ next = omega (arith, p.rest.ends, length-append name (59 ∷ [])) in
     base_class text at from to next p.within p.here start ends (read ∙ ap (λ (n : ℕ). ok_of n) end)
@@ -301,10 +302,10 @@ unfolding type_at
 type_from text at d b next few all read =
     let s = base_stands text (at + d) b next read in
     let other : get_or (drop d (drop at text)) 0 0 ≡ 91 → ⊥ = λ (e : get_or (drop d (drop at text)) 0 0 ≡ 91).
-      let place : at + (d + 0) ≡ at + d = omega arith in
-      begins_base text (at + d) b next s.0 s.1 (sym (ap (λ (n : ℕ). get_or text n 0) place) ∙ sym (get_or-drop at text (d + 0) 0) ∙ sym (get_or-drop d (drop at text) 0 0) ∙ e) in
+    let place : at + (d + 0) ≡ at + d = omega arith in
+    begins_base text (at + d) b next s.0 s.1 (sym (ap (λ (n : ℕ). get_or text n 0) place) ∙ sym (get_or-drop at text (d + 0) 0) ∙ sym (get_or-drop d (drop at text) 0 0) ∙ e) in
     let count : brackets (drop at text) ≡ d =
-      ap brackets (sym (take-append-drop d (drop at text)) ∙ ap (λ (l : List ℕ). l ++ drop d (drop at text)) all) ∙ brackets_again d (drop d (drop at text)) other in
+    ap brackets (sym (take-append-drop d (drop at text)) ∙ ap (λ (l : List ℕ). l ++ drop d (drop at text)) all) ∙ brackets_again d (drop d (drop at text)) other in
     rw (count, le-ltb 255 d (omega arith), read) refl
 
 abbrev pub typed_of : ℕ → Result (BaseType × ℕ) TextFault → Result (FieldType × ℕ) TextFault
@@ -328,7 +329,7 @@ type_stands text at t next le e =
     let s = base_stands text (at + dims) read.0.0 read.0.1 read.1 in
     let fit = brackets_fit (drop at text) in
     let front : Stands text at (replicate dims 91) (at + dims) =
-      subst (λ (l : List ℕ). Stands text at l (at + dims)) (brackets_less dims (drop at text) (omega arith)) (Stands-taken text at dims (omega (arith, length-drop at text))) in
+    subst (λ (l : List ℕ). Stands text at l (at + dims)) (brackets_less dims (drop at text) (omega arith)) (Stands-taken text at dims (omega (arith, length-drop at text))) in
     subst (λ (x : FieldType × ℕ). StandsType text at x.0 x.1) (ok_is (typed dims read.0.0, read.0.1) (t, next) read.2)
     (record { few = few; base = s.0; stands = Stands-then text at (replicate dims 91) (at + dims) (base_bytes text read.0.0) read.0.1 front s.1 })
 
