@@ -1,3 +1,5 @@
 pub mod Dots
+pub mod Bad
+pub mod Descriptors
 pub mod Names
 pub mod Text

@@ -3,12 +3,18 @@
 
 mod dots;
 mod fault;
+mod name;
+mod spelled;
 mod text;
+mod types;
 mod units;
 
 pub use dots::{dotted, slashed};
 pub use fault::{CopyEnd, TextFault};
-pub use text::{is_paired, plain_text, units_of};
+pub use name::{is_class_name, is_field_name, is_method_name, package_of};
+pub use spelled::descriptor;
+pub use text::{bytes_of, is_paired, plain_of, plain_text, units_of};
+pub use types::{BaseType, Descriptor, FieldType, Params};
 pub use units::Units;
 
 #[cfg(test)]
