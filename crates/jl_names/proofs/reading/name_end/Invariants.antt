@@ -1,6 +1,6 @@
 use Rattle.std.proofs.Common.{◌≡◌, ◌+◌, ◌≤◌, true, drop, length}
 use Rattle.jl_names.specs.Descriptors as readings
-use Rattle.jl_names.proofs.spelled.name_end.Given as goal
+use Rattle.jl_names.proofs.reading.name_end.Given as goal
 
 abbrev pub invariant-loop-rest : goal.invariant-loop-rest
 invariant-loop-rest l = record {

@@ -1,6 +1,6 @@
 use Rattle.jl_names.proofs.DescriptorLaws.{is_found, is_only}
 use Rattle.jl_names.proofs.MethodBad.{bad_place}
-use Rattle.jl_names.proofs.spelled.descriptor.Goals as goal
+use Rattle.jl_names.proofs.reading.descriptor.Goals as goal
 
 pub returns-clause-found : goal.returns-clause-found
 returns-clause-found c = is_found c.args.text.now c.whole.result c.whole.ensures

@@ -1,6 +1,6 @@
 use Rattle.std.proofs.Common.{◌≡◌, ◌+◌, drop, length}
 use Rattle.jl_names.specs.Descriptors.{brackets}
-use Rattle.jl_names.proofs.spelled.brackets_at.Given as goal
+use Rattle.jl_names.proofs.reading.brackets_at.Given as goal
 
 abbrev pub invariant-loop-rest : goal.invariant-loop-rest
 invariant-loop-rest l = record {

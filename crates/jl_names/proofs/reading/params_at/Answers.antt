@@ -1,7 +1,7 @@
 use Rattle.std.proofs.Common.{sym, ◌∙◌}
 use Rattle.std.proofs.lemmas.Result.{err_from_is_err_and}
 use Rattle.jl_names.proofs.ParamsLoop.{reads_first, reads_more, reads_fault, reads_all}
-use Rattle.jl_names.proofs.spelled.params_at.Goals as goal
+use Rattle.jl_names.proofs.reading.params_at.Goals as goal
 
 pub loop-types-init : goal.loop-types-init
 loop-types-init c = rw c.new-types.ensures.items (reads_first c.args.text.now c.requires)

@@ -1,6 +1,6 @@
 use Rattle.std.proofs.Common.{◌-◌, length}
 use Rattle.jl_names.proofs.ParamsLoop.{Reads}
-use Rattle.jl_names.proofs.spelled.params_at.Given as goal
+use Rattle.jl_names.proofs.reading.params_at.Given as goal
 
 abbrev pub invariant-loop-types : goal.invariant-loop-types
 invariant-loop-types l = Reads l.text l.types.items l.taken l.at
