@@ -1,0 +1,6 @@
+pub mod Facts
+pub mod Kept
+pub mod Whole
+pub mod Verdicts
+pub mod Reports
+pub mod Laws
