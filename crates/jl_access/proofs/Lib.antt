@@ -1,0 +1,5 @@
+-- Lemmas.
+pub mod Lists
+pub mod Numbers
+pub mod Stating
+pub mod Saying

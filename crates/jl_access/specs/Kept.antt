@@ -19,6 +19,10 @@ pub record Texts : Type 0 where
   pub texts : List (List ℕ)
   pub spare_texts : ℕ
 
+-- the same text in two values that hold one
+abbrev pub same_items : {V : Type 0} → (V → List ℕ) → V → V → Bool
+same_items items a b = is_text (items a) (items b)
+
 -- the text with a number
 abbrev pub text_in : Option (List ℕ) → List ℕ
 text_in None = []

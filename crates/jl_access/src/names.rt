@@ -20,14 +20,13 @@ impl Model for Names {
     ghost use Rattle.std.specs.Prelude.{map, ◌≤◌};
     ghost use Rattle.std.specs.List.{IsDistinct};
     ghost use Rattle.indexmap.specs.IndexSet.{spare};
-    ghost use Rattle.jl_logic.specs.Order.{is_text};
-    ghost use Rattle.jl_access.specs.Kept.{Texts};
+    ghost use Rattle.jl_access.specs.Kept.{Texts, same_items};
 
     ghost Value = { Texts };
 
     ghost view = { λ names. record { texts = map (λ v. v.items) names.texts.keys; spare_texts = names.reserved } };
 
-    ghost invariant = { λ names. IsDistinct is_text (map (λ v. v.items) names.texts.keys) × (names.reserved ≤ spare names.texts) };
+    ghost invariant = { λ names. IsDistinct (same_items (λ v. v.items)) names.texts.keys × (names.reserved ≤ spare names.texts) };
 }
 
 impl Names {
@@ -70,6 +69,9 @@ impl Names {
     pub fn number_of(&self, text: &[u8]) -> Option<usize>
         ensures { IsNumberOf self.now.texts text.now result }
     {
-        self.texts.get_index_of(text)
+        match self.texts.get_full(text) {
+            Some((number, _)) => Some(number),
+            None => None,
+        }
     }
 }
