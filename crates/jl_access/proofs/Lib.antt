@@ -1,5 +1,7 @@
 -- Lemmas.
 pub mod Lists
+pub mod Modules
 pub mod Numbers
 pub mod Stating
 pub mod Saying
+pub mod Same

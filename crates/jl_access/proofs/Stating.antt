@@ -54,7 +54,7 @@ module _ (texts : List (List ℕ)) (facts : List Fact) (all : AllByRecursion (Is
   reads_told a b = sym (any_made (IsNamed (length texts)) (says_reads a b) (same_fact (Reads a b)) (stated texts) facts all (λ f _. one f))
     where
       one : (f : Fact) → says_reads a b (stated texts f) ≡ same_fact (Reads a b) f
-      one (Reads c d) = ap₂ (λ x y. x && y) (eqb_turned c.0 a.0) refl
+      one (Reads c d) = ap₂ (λ x y. x && y) (eqb_turned c.0 a.0) (eqb_turned d.0 b.0)
       one (Of (Exports m r) n) = refl
       one (Of (Opens m r) n) = refl
       one (Of (Uses m) n) = refl

@@ -1,6 +1,6 @@
 //! The facts: modules, and statements about them.
 
-ghost use Rattle.std.specs.Prelude.{◌≡◌, ◌+◌, ◌<◌, ◌≤◌, [], ◌∷◌, ◌++◌, length, OnOk, option_map, map};
+ghost use Rattle.std.specs.Prelude.{◌≡◌, ◌+◌, ◌<◌, ◌≤◌, [], ◌∷◌, ◌++◌, length, OnOk, option_map, option_copied, map, slice_get};
 ghost use Rattle.std.specs.List.{list_any};
 ghost use Rattle.jl_access.specs.Facts.{State, IsStatable, IsAsBefore, Adds, is_open_module, says_reads};
 ghost use Rattle.jl_access.specs.Facts as facts;
@@ -196,8 +196,15 @@ impl Facts {
 fn numbered<'a>(modules: &'a [Module], m: ModuleId) -> Option<&'a Module>
     ensures { option_map (λ x. declared x.now) result ≡ facts.numbered (map declared modules.now) m.0 }
 {
-    match m.0 {
-        0 => None,
-        number => modules.get(number as usize - 1),
+    if m.0 == 0 {
+        return None;
     }
+    module_at(modules, m.0 as usize - 1)
+}
+
+/// The module at a place, counted from 0.
+fn module_at<'a>(modules: &'a [Module], place: usize) -> Option<&'a Module>
+    ensures { option_copied result ≡ slice_get modules.now place }
+{
+    modules.get(place)
 }
