@@ -21,6 +21,13 @@ and_false false = refl
 pub eqb_turned : (a b : ℕ) → (a == b) ≡ (b == a)
 eqb_turned a b = both_ways (a == b) (b == a) (λ h. eq-eqb b a (sym (eqb-true a b h))) (λ h. eq-eqb a b (sym (eqb-true b a h)))
 
+-- what `||` answers
+pub or_then : (a b s : Bool) → s ≡ a → s ≡ true → s ≡ (a || b)
+or_then a b s e f = f ∙ sym (ap (λ x. x || b) (sym e ∙ f))
+
+pub or_else : (a b s r : Bool) → s ≡ a → s ≡ false → r ≡ b → r ≡ (a || b)
+or_else a b s r e f g = g ∙ sym (ap (λ x. x || b) (sym e ∙ f))
+
 -- ---- places
 
 module _ {X : Type 0} where

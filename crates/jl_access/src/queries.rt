@@ -1,6 +1,7 @@
 //! Questions about one module or two.
 
-ghost use Rattle.std.specs.Prelude.{◌≡◌};
+ghost use Rattle.std.specs.Prelude.{◌≡◌, ◌||◌};
+ghost use Rattle.std.specs.List.{list_any};
 ghost use Rattle.jl_access.specs.Facts as facts;
 
 use crate::facts::Facts;
@@ -64,7 +65,21 @@ impl Facts {
     pub(crate) fn open_to(&self, m: ModuleId, name: &[u8], c: ModuleId) -> bool
         ensures { result ≡ facts.open_to self.now m name.now c }
     {
-        m == c || self.open_to_all(m, name) || self.says(About::Opens(m, Reach::To(c)), name)
+        m == c || self.open_to_other(m, name, c)
+    }
+
+    /// Whether m opens the package to c, were c another module.
+    fn open_to_other(&self, m: ModuleId, name: &[u8], c: ModuleId) -> bool
+        ensures { result ≡ (facts.is_open_module self.now m || list_any (facts.says_opens (facts.reach_to c) m name.now) self.now.statements) }
+    {
+        self.is_open(m) || self.says_opened_to(m, name, c)
+    }
+
+    /// Whether it is stated that m opens the package to c or to all.
+    fn says_opened_to(&self, m: ModuleId, name: &[u8], c: ModuleId) -> bool
+        ensures { result ≡ list_any (facts.says_opens (facts.reach_to c) m name.now) self.now.statements }
+    {
+        self.says(About::Opens(m, Reach::All), name) || self.says(About::Opens(m, Reach::To(c)), name)
     }
 
     /// Whether m exports the package, to whomever. What is open is exported.
@@ -85,8 +100,14 @@ impl Facts {
     pub(crate) fn exported_to(&self, m: ModuleId, name: &[u8], c: ModuleId) -> bool
         ensures { result ≡ facts.exported_to self.now m name.now c }
     {
-        self.open_to(m, name, c)
-            || self.says(About::Exports(m, Reach::All), name)
+        self.open_to(m, name, c) || self.says_exported_to(m, name, c)
+    }
+
+    /// Whether it is stated that m exports the package to c or to all.
+    fn says_exported_to(&self, m: ModuleId, name: &[u8], c: ModuleId) -> bool
+        ensures { result ≡ list_any (facts.says_exports (facts.reach_to c) m name.now) self.now.statements }
+    {
+        self.says(About::Exports(m, Reach::All), name)
             || self.says(About::Exports(m, Reach::To(c)), name)
     }
 }
