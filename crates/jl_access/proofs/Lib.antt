@@ -1,4 +1,5 @@
 -- Lemmas.
+pub mod Conditions
 pub mod Lists
 pub mod Modules
 pub mod Numbers
