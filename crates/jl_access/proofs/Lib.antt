@@ -1,7 +1,9 @@
 -- Lemmas.
 pub mod Conditions
+pub mod Keys
 pub mod Lists
 pub mod Modules
+pub mod Noting
 pub mod Numbers
 pub mod Stating
 pub mod Saying

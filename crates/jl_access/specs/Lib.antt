@@ -3,4 +3,5 @@ pub mod Kept
 pub mod Whole
 pub mod Verdicts
 pub mod Reports
+pub mod Counting
 pub mod Laws

@@ -1,6 +1,7 @@
 //! The report of the checks between modules.
 
-ghost use Rattle.std.specs.Prelude.{◌≡◌, [], ◌∷◌, ◌++◌, List, OnOk, OnErr, slice_get, option_map};
+ghost use Rattle.std.specs.Prelude.{◌≡◌, [], ◌∷◌, ◌++◌, List, OnOk, OnErr, slice_get, option_map, option_copied};
+ghost use Rattle.jl_access.specs.Counting as counting;
 ghost use Rattle.jl_access.specs.Reports.{Note, noted, lines_of};
 
 use crate::fault::FactsEnd;
@@ -65,10 +66,7 @@ impl Report {
             → OnOk result (self.new ≡ lines_of (notes ++ record { key = key; step = step } ∷ [])) }
         ensures err { OnErr result (self.new ≡ self.old) }
     {
-        let line = match self.lines.get(&key) {
-            Some((first, count)) => (*first, count.saturating_add(1)),
-            None => (step, 1),
-        };
+        let line = after_note(step, self.lines.get(&key));
         self.lines.insert(key, line)?;
         Ok(())
     }
@@ -82,5 +80,15 @@ impl Report {
             Some((key, (first, count))) => Some((key, *first, *count)),
             None => None,
         }
+    }
+}
+
+/// The step of the first note, and the count, after a note at a step.
+fn after_note(step: u64, line: Option<&(u64, u64)>) -> (u64, u64)
+    ensures { result ≡ counting.after_note step (option_copied line.entry) }
+{
+    match line {
+        Some((first, count)) => (*first, count.saturating_add(1)),
+        None => (step, 1),
     }
 }
