@@ -3,8 +3,10 @@ pub mod Conditions
 pub mod Keys
 pub mod Lists
 pub mod Modules
+pub mod Naming
 pub mod Noting
 pub mod Numbers
-pub mod Stating
-pub mod Saying
 pub mod Same
+pub mod Saying
+pub mod Stating
+pub mod Staying
