@@ -1,8 +1,8 @@
 -- Verdicts condition by condition.
-use Rattle.std.proofs.Common.{◌≡◌, List, [], ◌∷◌, Bool, true, false, if◌then◌else◌, refl, sym, ◌∙◌, ap}
+use Rattle.std.proofs.Common.{◌≡◌, List, ◌∷◌, Bool, true, false, if◌then◌else◌, sym, ◌∙◌, ap}
 use Rattle.jl_access.specs.declared.verdict.Rule.{Rule}
 use Rattle.jl_access.specs.declared.verdict.Verdict.{Verdict}
-use Rattle.jl_access.specs.declared.verdict.Verdict.TheVariants.{Granted, Denied}
+use Rattle.jl_access.specs.declared.verdict.Verdict.TheVariants.{Denied}
 use Rattle.jl_access.specs.Verdicts.{judged}
 
 -- the first condition fails

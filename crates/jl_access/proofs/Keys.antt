@@ -1,7 +1,6 @@
 -- Equal keys.
-use Rattle.std.proofs.Common.{◌≡◌, ℕ, suc, List, Bool, true, false, ◌&&◌, ◌==◌, Option, Some, None, refl, sym, ◌∙◌, ap, ap₂}
+use Rattle.std.proofs.Common.{◌≡◌, ℕ, suc, List, true, ◌&&◌, ◌==◌, Option, Some, None, refl, sym, ◌∙◌, ap, ap₂}
 use Rattle.std.proofs.Math.Dec.{eqb-suc-suc}
-use Rattle.jl_prim.specs.declared.numbers.ModuleId.{ModuleId}
 use Rattle.jl_access.specs.declared.report.Key.{Key}
 use Rattle.jl_access.specs.declared.report.NoteKind.{NoteKind}
 use Rattle.jl_access.specs.declared.report.NoteKind.TheVariants as kind
@@ -63,8 +62,8 @@ derived_package (Some p) (Some q) = refl
 pub derived_key : (a b : Key) → keys.eq-value.it a b ≡ is_same_key a b
 derived_key a b =
     ap (λ x. (a.from.0 == b.from.0) && ((a.to.0 == b.to.0) && x))
-        (ap₂ (λ x y. x && y) (derived_package a.package b.package)
-            (ap₂ (λ x y. x && y) (derived_kind a.kind b.kind) (derived_verdict a.verdict b.verdict)))
+    (ap₂ (λ x y. x && y) (derived_package a.package b.package)
+    (ap₂ (λ x y. x && y) (derived_kind a.kind b.kind) (derived_verdict a.verdict b.verdict)))
 
 pub same_itself : (a : Key) → is_same_key a a ≡ true
 same_itself a = sym (derived_key a a) ∙ laws.laws-law.refl a

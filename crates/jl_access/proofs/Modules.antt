@@ -1,9 +1,9 @@
 -- Modules by their numbers.
-use Rattle.std.proofs.Common.{◌≡◌, ◌-◌, ◌+◌, ◌<◌, ℕ, zero, suc, List, map, slice_get, Option, Some, None, Bor, refl, sym, ◌∙◌, ap, arith}
+use Rattle.std.proofs.Common.{◌≡◌, ◌-◌, ◌<◌, ℕ, suc, List, map, slice_get, Option, Some, None, Bor, refl, sym, ◌∙◌, ap, arith}
 use Rattle.std.specs.Option.{option_map, option_copied}
 use Rattle.std.proofs.lemmas.Option.{slice_get-map}
 use Rattle.jl_access.specs.declared.facts.Module.{Module}
-use Rattle.jl_access.specs.Facts.{Declared, numbered}
+use Rattle.jl_access.specs.Facts.{numbered}
 use Rattle.jl_access.specs.Whole.{declared}
 
 copied_map : (r : Option (Bor Module)) → option_map (λ x. declared x.now) r ≡ option_map declared (option_copied r)

@@ -4,17 +4,15 @@ use Rattle.std.specs.Prelude.{◌↔◌}
 use Rattle.std.specs.List.{list_any, AllByRecursion}
 use Rattle.jl_prim.specs.declared.numbers.ModuleId.{ModuleId}
 use Rattle.jl_logic.specs.Order.{is_text}
-use Rattle.jl_access.specs.declared.statement.Reach.{Reach}
 use Rattle.jl_access.specs.declared.statement.Statement.{Statement}
 use Rattle.jl_access.specs.declared.statement.Statement.TheVariants as statements
 use Rattle.jl_access.specs.declared.verdict.Place.{Place}
 use Rattle.jl_access.specs.declared.verdict.MemberAccess.{MemberAccess}
 use Rattle.jl_access.specs.declared.verdict.Rule.{Rule}
 use Rattle.jl_access.specs.declared.verdict.Rule.TheVariants as rules
-use Rattle.jl_access.specs.declared.verdict.Verdict.{Verdict}
 use Rattle.jl_access.specs.declared.verdict.Verdict.TheVariants.{Granted, Denied}
-use Rattle.jl_access.specs.Facts.{State, is_open_module, is_same, says_opens, says_exports, anywhere, reaches, reach_to, reads, opened, open_to, exported, exported_to}
-use Rattle.jl_access.specs.Verdicts.{judged, then_judged, class_verdict, class_conditions, within_module, beyond_reading, is_one_module, member_verdict, member_conditions, by_its_class, reflect_verdict, reflect_conditions, may_go_deep, deep_verdict}
+use Rattle.jl_access.specs.Facts.{State, is_open_module, is_same, says_opens, says_exports, anywhere, reaches, reach_to, reads, opened, exported, exported_to}
+use Rattle.jl_access.specs.Verdicts.{judged, then_judged, class_verdict, within_module, beyond_reading, is_one_module, member_conditions, by_its_class, reflect_verdict, reflect_conditions, may_go_deep, deep_verdict}
 use Rattle.jl_access.specs.Laws.{FailsFirst}
 use Rattle.jl_access.proofs.Lists.{eqb_turned}
 use Rattle.jl_access.proofs.Conditions.{holds}
@@ -121,7 +119,7 @@ exported_somewhere : (f : State) (m : ModuleId) (p : List ℕ) (c : ModuleId) �
 exported_somewhere f m p c other =
     let ss = f.statements in
     somewhere (is_same m c) (is_open_module f m) (list_any (says_opens (reach_to c) m p) ss) (list_any (says_opens anywhere m p) ss) (list_any (says_exports (reach_to c) m p) ss) (list_any (says_exports anywhere m p) ss)
-        other (any_implied (says_opens (reach_to c) m p) (says_opens anywhere m p) ss (opens_implied c m p)) (any_implied (says_exports (reach_to c) m p) (says_exports anywhere m p) ss (exports_implied c m p))
+    other (any_implied (says_opens (reach_to c) m p) (says_opens anywhere m p) ss (opens_implied c m p)) (any_implied (says_exports (reach_to c) m p) (says_exports anywhere m p) ss (exports_implied c m p))
 
 pub by_three : (f : State) (from to : Place) (public : Bool) → is_one_module from to ≡ false
     → (class_verdict f from to public ≡ Granted) ↔ ((reads f from.module to.module ≡ true) × (exported_to f to.module to.package from.module ≡ true) × (public ≡ true))
@@ -131,16 +129,17 @@ by_three f from to public other =
     let c = from.module in
     let last = (public, rules.ClassNotPublic) ∷ [] in
     let is : class_verdict f from to public ≡ judged ((reads f c m, rules.NotRead) ∷ beyond_reading f from to public) =
-        ap (λ b. judged (if b then within_module from to public else (reads f c m, rules.NotRead) ∷ beyond_reading f from to public)) other in
-    (λ e.
-        let one = granted_first (reads f c m) rules.NotRead (beyond_reading f from to public) (sym is ∙ e) in
-        let two = granted_first (exported f m p) rules.NotExported ((exported_to f m p c, rules.NotExportedTo) ∷ last) one.1 in
-        let three = granted_first (exported_to f m p c) rules.NotExportedTo last two.1 in
-        let four = granted_first public rules.ClassNotPublic [] three.1 in
-        (one.0, three.0, four.0),
-    λ h.
-        is
-        ∙ sym (holds (reads f c m) rules.NotRead (beyond_reading f from to public) Granted h.0
-            (holds (exported f m p) rules.NotExported ((exported_to f m p c, rules.NotExportedTo) ∷ last) Granted (exported_somewhere f m p c (eqb_turned m.0 c.0 ∙ other) h.1)
-                (holds (exported_to f m p c) rules.NotExportedTo last Granted h.1
-                    (holds public rules.ClassNotPublic [] Granted h.2 refl)))))
+    ap (λ b. judged (if b then within_module from to public else (reads f c m, rules.NotRead) ∷ beyond_reading f from to public)) other in (
+      λ e.
+          let one = granted_first (reads f c m) rules.NotRead (beyond_reading f from to public) (sym is ∙ e) in
+          let two = granted_first (exported f m p) rules.NotExported ((exported_to f m p c, rules.NotExportedTo) ∷ last) one.1 in
+          let three = granted_first (exported_to f m p c) rules.NotExportedTo last two.1 in
+          let four = granted_first public rules.ClassNotPublic [] three.1 in
+          (one.0, three.0, four.0),
+      λ h.
+          is
+          ∙ sym (holds (reads f c m) rules.NotRead (beyond_reading f from to public) Granted h.0
+          (holds (exported f m p) rules.NotExported ((exported_to f m p c, rules.NotExportedTo) ∷ last) Granted (exported_somewhere f m p c (eqb_turned m.0 c.0 ∙ other) h.1)
+          (holds (exported_to f m p c) rules.NotExportedTo last Granted h.1
+          (holds public rules.ClassNotPublic [] Granted h.2 refl)))),
+    )

@@ -1,5 +1,5 @@
 -- One note more in the lines of a list of notes.
-use Rattle.std.proofs.Common.{◌≡◌, ◌+◌, ◌<◌, ℕ, List, [], ◌∷◌, ◌++◌, length, map, filter, Bool, true, false, ◌&&◌, ◌||◌, cond, if◌then◌else◌, min, Option, Some, None, refl, sym, ◌∙◌, ap, ap₂, true≢false, arith, append_assoc, length-append}
+use Rattle.std.proofs.Common.{◌≡◌, ◌+◌, ℕ, List, [], ◌∷◌, ◌++◌, length, map, filter, Bool, true, false, ◌||◌, cond, if◌then◌else◌, min, Option, Some, refl, sym, ◌∙◌, ap, ap₂, true≢false, arith, append_assoc, length-append}
 use Rattle.std.specs.List.{list_any, AllByRecursion}
 use Rattle.std.specs.Map.{lookup}
 use Rattle.std.proofs.lemmas.List.{map-append, append-nil}
@@ -114,8 +114,8 @@ firsts_any k before [] = refl
 firsts_any k before (m ∷ ns) =
     ap (λ b. list_any (has_key k) before || b) (any_choice k m (firsts (before ++ m ∷ []) ns) (list_any (has_key m.key) before))
     ∙ either_way (list_any (has_key k) before) (has_key k m) (list_any (has_key k) (firsts (before ++ m ∷ []) ns)) (list_any (has_key k) ns) (list_any (has_key m.key) before)
-        (sym (ap (λ b. b || list_any (has_key k) (firsts (before ++ m ∷ []) ns)) (any_with k before m)) ∙ firsts_any k (before ++ m ∷ []) ns ∙ ap (λ b. b || list_any (has_key k) ns) (any_with k before m))
-        (λ e h. any_met k m before e h)
+    (sym (ap (λ b. b || list_any (has_key k) (firsts (before ++ m ∷ []) ns)) (any_with k before m)) ∙ firsts_any k (before ++ m ∷ []) ns ∙ ap (λ b. b || list_any (has_key k) ns) (any_with k before m))
+    (λ e h. any_met k m before e h)
 
 -- ---- the firsts of one note more
 
@@ -124,7 +124,7 @@ unfolding firsts
 firsts_with before [] n = ap (λ xs. if list_any (has_key n.key) xs then [] else n ∷ []) (sym (append-nil before))
 firsts_with before (m ∷ ns) n =
     by (list_any (has_key m.key) before) (list_any (has_key n.key) (before ++ m ∷ ns))
-        (firsts_with (before ++ m ∷ []) ns n ∙ ap (λ xs. if list_any (has_key n.key) xs then firsts (before ++ m ∷ []) ns else firsts (before ++ m ∷ []) ns ++ n ∷ []) (append_assoc before (m ∷ []) ns))
+    (firsts_with (before ++ m ∷ []) ns n ∙ ap (λ xs. if list_any (has_key n.key) xs then firsts (before ++ m ∷ []) ns else firsts (before ++ m ∷ []) ns ++ n ∷ []) (append_assoc before (m ∷ []) ns))
   where
     by : (b c : Bool) → firsts (before ++ m ∷ []) (ns ++ n ∷ []) ≡ (if c then firsts (before ++ m ∷ []) ns else firsts (before ++ m ∷ []) ns ++ n ∷ [])
         → (if b then firsts (before ++ m ∷ []) (ns ++ n ∷ []) else m ∷ firsts (before ++ m ∷ []) (ns ++ n ∷ []))
@@ -138,11 +138,11 @@ firsts_with before (m ∷ ns) n =
 counted_with : (notes : List Note) (n : Note) (k : Key) (b : Bool) → has_key k n ≡ b → counted_notes (notes ++ n ∷ []) k ≡ (if b then min (counted_notes notes k + 1) last_count else counted_notes notes k)
 counted_with notes n k true e =
     let more : length (filter (has_key k) (notes ++ n ∷ [])) ≡ length (filter (has_key k) notes) + 1 =
-        ap length (filter-append (has_key k) notes (n ∷ [])) ∙ length-append (filter (has_key k) notes) (filter (has_key k) (n ∷ [])) ∙ ap (λ b. length (filter (has_key k) notes) + length (cond b (n ∷ []) [])) e in
+    ap length (filter-append (has_key k) notes (n ∷ [])) ∙ length-append (filter (has_key k) notes) (filter (has_key k) (n ∷ [])) ∙ ap (λ b. length (filter (has_key k) notes) + length (cond b (n ∷ []) [])) e in
     ap (λ x. min x last_count) more ∙ omega arith
 counted_with notes n k false e =
     let more : length (filter (has_key k) (notes ++ n ∷ [])) ≡ length (filter (has_key k) notes) + 0 =
-        ap length (filter-append (has_key k) notes (n ∷ [])) ∙ length-append (filter (has_key k) notes) (filter (has_key k) (n ∷ [])) ∙ ap (λ b. length (filter (has_key k) notes) + length (cond b (n ∷ []) [])) e in
+    ap length (filter-append (has_key k) notes (n ∷ [])) ∙ length-append (filter (has_key k) notes) (filter (has_key k) (n ∷ [])) ∙ ap (λ b. length (filter (has_key k) notes) + length (cond b (n ∷ []) [])) e in
     ap (λ x. min x last_count) more ∙ omega arith
 
 nothing_kept : (p : Note → Bool) (notes : List Note) → list_any p notes ≡ false → filter p notes ≡ []
@@ -187,8 +187,8 @@ module _ (notes : List Note) (n : Note) where
   untouched f [] e all = refl
   untouched f (g ∷ fs) e all =
       ap₂ (λ l ls. l ∷ ls)
-          (ap (λ b. if b then one_more (line_of notes g) else line_of notes g) (sym (same_alike f.key n.key g.key e) ∙ all.0))
-          (untouched f fs e all.1)
+      (ap (λ b. if b then one_more (line_of notes g) else line_of notes g) (sym (same_alike f.key n.key g.key e) ∙ all.0))
+      (untouched f fs e all.1)
 
   bumped_lines : (fs : List Note) → AreApart fs → (map bumped fs ++ (if list_any (has_key n.key) fs then [] else new_line ∷ [])) ≡ noted n.key n.step (map (line_of notes) fs)
   unfolding noted new_line

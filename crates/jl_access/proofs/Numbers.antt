@@ -1,6 +1,6 @@
 -- Texts that are kept once, and their numbers.
-use Rattle.std.proofs.Common.{◌≡◌, ◌<◌, ◌≤◌, ◌+◌, ℕ, zero, suc, List, [], ◌∷◌, ◌++◌, length, map, slice_get, Bool, true, false, ◌==◌, Option, Some, None, refl, sym, ◌∙◌, ap, subst, true≢false, arith, if◌then◌else◌, cond, option_map}
-use Rattle.std.specs.List.{list_any, find, AllByRecursion, IsDistinct}
+use Rattle.std.proofs.Common.{◌≡◌, ◌<◌, ℕ, zero, suc, List, [], ◌∷◌, ◌++◌, map, slice_get, Bool, true, false, ◌==◌, Some, None, refl, sym, ◌∙◌, ap, subst, true≢false, if◌then◌else◌, cond, option_map}
+use Rattle.std.specs.List.{list_any, find, IsDistinct}
 use Rattle.std.specs.Cmp.Lexicographic.{bytes_decides}
 use Rattle.std.proofs.lemmas.Bool.{eq-eqb, eqb-true}
 use Rattle.std.proofs.lemmas.List.{map-append, append-nil, length-map}
@@ -8,7 +8,7 @@ use Rattle.std.proofs.lemmas.Option.{slice_get-map}
 use Rattle.indexmap.specs.IndexSet.{insert_key}
 use Rattle.jl_logic.specs.Lists.{IsFront}
 use Rattle.jl_logic.specs.Order.{is_text}
-use Rattle.jl_access.specs.Kept.{text_in, text_at, is_number, IsNumberOf, same_items}
+use Rattle.jl_access.specs.Kept.{text_in, text_at, IsNumberOf, same_items}
 use Rattle.jl_access.proofs.Lists.{both_ways, not_true, place_of, each_at, any_place}
 
 module _ {V : Type 0} (items : V → List ℕ) where
@@ -35,8 +35,8 @@ module _ {V : Type 0} (items : V → List ℕ) where
       let at = place_of keys m (subst (λ l. m < l) (length-map keys items) lt) in
       let text = text_of_place keys m at.0 at.1 in
       both_ways (is_text (text_at (map items keys) m) t) (m == n)
-          (λ h. eq-eqb m n (unique_place keys m n at.0 a d at.1 e (sym text ∙ (bytes_decides (text_at (map items keys) m) t).0 h ∙ sym f)))
-          (λ h. (bytes_decides (text_at (map items keys) m) t).1 (ap (text_at (map items keys)) (eqb-true m n h) ∙ text_of_place keys n a e ∙ f))
+      (λ h. eq-eqb m n (unique_place keys m n at.0 a d at.1 e (sym text ∙ (bytes_decides (text_at (map items keys) m) t).0 h ∙ sym f)))
+      (λ h. (bytes_decides (text_at (map items keys) m) t).1 (ap (text_at (map items keys)) (eqb-true m n h) ∙ text_of_place keys n a e ∙ f))
 
   find_passes : (p : V → Bool) (keys : List V) (k : V) → Some k ≡ find p keys → p k ≡ true
   find_passes p [] k e = absurd cc
@@ -55,7 +55,7 @@ module _ {V : Type 0} (items : V → List ℕ) where
       let at = place_of keys m (subst (λ l. m < l) (length-map keys items) lt) in
       let text = text_of_place keys m at.0 at.1 in
       not_true (is_text (text_at (map items keys) m) t)
-          (λ h. true≢false (sym (any_place (λ k. is_text t (items k)) keys m at.0 at.1 ((bytes_decides t (items at.0)).1 (sym ((bytes_decides (text_at (map items keys) m) t).0 h) ∙ text))) ∙ none))
+      (λ h. true≢false (sym (any_place (λ k. is_text t (items k)) keys m at.0 at.1 ((bytes_decides t (items at.0)).1 (sym ((bytes_decides (text_at (map items keys) m) t).0 h) ∙ text))) ∙ none))
 
   -- what is taken in stands at its number
   pub taken_in : (keys : List V) (n : ℕ) (v : V) → (k : V) × (slice_get keys n ≡ Some k) × (same_items items v k ≡ true) → slice_get (map items keys) n ≡ Some (items v)

@@ -1,5 +1,5 @@
 -- The derived tests of facts.
-use Rattle.std.proofs.Common.{◌≡◌, ◌≤◌, ℕ, List, [], ◌∷◌, ◌++◌, Bool, true, false, cond, ◌&&◌, ◌||◌, ◌==◌, refl, sym, ◌∙◌, ap, ap₂, arith, length}
+use Rattle.std.proofs.Common.{◌≡◌, List, [], ◌∷◌, ◌++◌, Bool, true, false, cond, ◌&&◌, ◌||◌, ◌==◌, refl, sym, ◌∙◌, ap, ap₂}
 use Rattle.std.specs.List.{list_any}
 use Rattle.jl_access.specs.declared.statement.Reach.{Reach}
 use Rattle.jl_access.specs.declared.statement.Reach.TheVariants.{All, To, Nobody}
@@ -110,6 +110,6 @@ pub table_with : (facts exact anywhere more exact_more anywhere_more : List Fact
     → ((k : Fact) → list_any (same_fact k) anywhere_more ≡ (same_fact k g || list_any (same_fact k) anywhere))
     → IsTable more exact_more anywhere_more
 table_with facts exact anywhere more exact_more anywhere_more f g t grown is e a = record {
-    exact_ones = λ k. e k ∙ ap (λ b. same_fact k f || b) (t.exact_ones k) ∙ sym (ap (list_any (same_fact k)) grown ∙ one_later (same_fact k) facts f);
-    any_ones = λ k. a k ∙ ap₂ (λ h b. same_fact k h || b) is (t.any_ones k) ∙ sym (ap (list_any (λ h. same_fact k (to_all h))) grown ∙ one_later (λ h. same_fact k (to_all h)) facts f);
-  }
+  exact_ones = λ k. e k ∙ ap (λ b. same_fact k f || b) (t.exact_ones k) ∙ sym (ap (list_any (same_fact k)) grown ∙ one_later (same_fact k) facts f);
+  any_ones = λ k. a k ∙ ap₂ (λ h b. same_fact k h || b) is (t.any_ones k) ∙ sym (ap (list_any (λ h. same_fact k (to_all h))) grown ∙ one_later (λ h. same_fact k (to_all h)) facts f);
+}

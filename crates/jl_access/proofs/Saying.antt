@@ -1,5 +1,5 @@
 -- What is asked of statements, by what is looked up.
-use Rattle.std.proofs.Common.{◌≡◌, ℕ, List, [], ◌∷◌, Bool, true, false, ◌&&◌, ◌||◌, ◌==◌, refl, sym, ◌∙◌, ap, ap₂}
+use Rattle.std.proofs.Common.{◌≡◌, ℕ, List, Bool, true, false, ◌&&◌, ◌||◌, refl, ◌∙◌, ap, ap₂}
 use Rattle.std.specs.List.{list_any}
 use Rattle.jl_logic.specs.Order.{is_text}
 use Rattle.jl_prim.specs.declared.numbers.ModuleId.{ModuleId}
@@ -10,7 +10,7 @@ use Rattle.jl_access.specs.declared.statement.Statement.TheVariants as statement
 use Rattle.jl_access.specs.declared.table.About.TheVariants.{Exports, Opens, Uses}
 use Rattle.jl_access.specs.Facts.{is_same, reaches, reach_to, reaches_all, anywhere, says_exports, says_opens, says_uses}
 use Rattle.jl_access.specs.Kept.{is_same_reach}
-use Rattle.jl_access.specs.Whole.{says, says_anywhere, statement_all}
+use Rattle.jl_access.specs.Whole.{says, says_anywhere}
 use Rattle.jl_access.proofs.Lists.{eqb_turned, any_alike, any_either}
 
 -- ---- booleans: the module, the name and the reach

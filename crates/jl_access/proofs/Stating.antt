@@ -1,19 +1,17 @@
 -- Statements of facts whose names grow, and what is looked up.
-use Rattle.std.proofs.Common.{◌≡◌, ◌<◌, ◌≤◌, ◌+◌, ℕ, List, [], ◌∷◌, ◌++◌, length, map, slice_get, Bool, true, false, ◌&&◌, ◌||◌, ◌==◌, Option, Some, None, refl, sym, ◌∙◌, ap, ap₂, subst, arith, length-append}
+use Rattle.std.proofs.Common.{◌≡◌, ◌<◌, ◌≤◌, ◌+◌, ℕ, List, [], ◌∷◌, ◌++◌, length, map, slice_get, false, ◌&&◌, Some, None, refl, sym, ◌∙◌, ap, ap₂, subst, arith, length-append}
 use Rattle.std.specs.List.{list_any, AllByRecursion}
 use Rattle.std.proofs.lemmas.List.{map-append}
 use Rattle.std.proofs.lemmas.Option.{slice_get_within}
 use Rattle.jl_logic.specs.Lists.{IsFront}
-use Rattle.jl_logic.specs.Order.{is_text}
 use Rattle.jl_logic.proofs.Rising.{each_in_append}
 use Rattle.jl_prim.specs.declared.numbers.ModuleId.{ModuleId}
-use Rattle.jl_access.specs.declared.statement.Statement.{Statement}
 use Rattle.jl_access.specs.declared.table.About.{About}
 use Rattle.jl_access.specs.declared.table.About.TheVariants.{Exports, Opens, Uses}
 use Rattle.jl_access.specs.declared.table.Fact.{Fact}
 use Rattle.jl_access.specs.declared.table.Fact.TheVariants.{Reads, Of}
 use Rattle.jl_access.specs.Facts.{says_reads}
-use Rattle.jl_access.specs.Kept.{text_in, text_at, is_number, IsNumberOf, same_fact, is_same_about, about_all, to_all}
+use Rattle.jl_access.specs.Kept.{text_in, IsNumberOf, same_fact, is_same_about, about_all, to_all}
 use Rattle.jl_access.specs.Whole.{said, stated, IsNamed, says, says_anywhere}
 use Rattle.jl_access.proofs.Lists.{eqb_turned, and_false, front_place, any_made, any_never}
 
@@ -60,7 +58,6 @@ module _ (texts : List (List ℕ)) (facts : List Fact) (all : AllByRecursion (Is
       one (Of (Uses m) n) = refl
 
   module _ (x : About) (t : List ℕ) where
-
     pub said_told : (n : ℕ) → IsNumberOf texts t (Some n) → list_any (same_fact (Of x n)) facts ≡ list_any (says x t) (map (stated texts) facts)
     said_told n number = sym (any_made (IsNamed (length texts)) (says x t) (same_fact (Of x n)) (stated texts) facts all one)
       where

@@ -1,5 +1,5 @@
 -- What is granted stays granted.
-use Rattle.std.proofs.Common.{◌≡◌, List, [], ◌∷◌, ◌++◌, Bool, true, false, ◌&&◌, ◌||◌, if◌then◌else◌, Option, Some, None, refl, sym, ◌∙◌, ap, true≢false, ℕ}
+use Rattle.std.proofs.Common.{◌≡◌, List, [], ◌∷◌, Bool, true, false, ◌&&◌, ◌||◌, if◌then◌else◌, Option, Some, None, refl, ◌∙◌, ap, ℕ}
 use Rattle.std.specs.List.{list_any}
 use Rattle.std.proofs.lemmas.List.Folds.{list_any-append}
 use Rattle.jl_prim.specs.declared.numbers.ModuleId.{ModuleId}
@@ -11,7 +11,7 @@ use Rattle.jl_access.specs.declared.verdict.Rule.TheVariants as rules
 use Rattle.jl_access.specs.declared.verdict.Verdict.{Verdict}
 use Rattle.jl_access.specs.declared.verdict.Verdict.TheVariants.{Granted, Denied}
 use Rattle.jl_access.specs.Facts.{State, Adds, numbered, is_open_in, is_open_module, is_same, says_reads, says_opens, says_exports, says_uses, anywhere, reach_to, reads, opened, open_to, exported, exported_to, uses}
-use Rattle.jl_access.specs.Verdicts.{judged, then_judged, class_verdict, class_conditions, within_module, beyond_reading, is_one_module, member_verdict, by_its_class, reflect_verdict, reflect_conditions, is_shown, is_shown_to, may_go_deep, deep_verdict, service_verdict, may_change, caller_verdict}
+use Rattle.jl_access.specs.Verdicts.{judged, then_judged, class_verdict, within_module, beyond_reading, is_one_module, member_verdict, by_its_class, reflect_verdict, reflect_conditions, is_shown, is_shown_to, may_go_deep, deep_verdict, service_verdict, caller_verdict}
 
 -- ---- booleans
 
@@ -45,7 +45,7 @@ module _ (s : Statement) (f g : State) (adds : Adds s f g) where
   open_to_stays : (m : ModuleId) (p : List ℕ) (c : ModuleId) → open_to f m p c ≡ true → open_to g m p c ≡ true
   open_to_stays m p c =
       or_stays (is_same m c) (is_open_module f m || list_any (says_opens (reach_to c) m p) f.statements) (is_same m c) (is_open_module g m || list_any (says_opens (reach_to c) m p) g.statements) (λ e. e)
-          (or_stays (is_open_module f m) (list_any (says_opens (reach_to c) m p) f.statements) (is_open_module g m) (list_any (says_opens (reach_to c) m p) g.statements) (open_stays m) (more (says_opens (reach_to c) m p)))
+      (or_stays (is_open_module f m) (list_any (says_opens (reach_to c) m p) f.statements) (is_open_module g m) (list_any (says_opens (reach_to c) m p) g.statements) (open_stays m) (more (says_opens (reach_to c) m p)))
 
   exported_stays : (m : ModuleId) (p : List ℕ) → exported f m p ≡ true → exported g m p ≡ true
   exported_stays m p = or_stays (opened f m p) (list_any (says_exports anywhere m p) f.statements) (opened g m p) (list_any (says_exports anywhere m p) g.statements) (opened_stays m p) (more (says_exports anywhere m p))
@@ -80,7 +80,7 @@ module _ (s : Statement) (f g : State) (from to : Place) (public : Bool) (adds :
       let c = from.module in
       let last = (public, rules.ClassNotPublic) ∷ [] in
       judged_stays (exported f m p) (exported g m p) rules.NotExported ((exported_to f m p c, rules.NotExportedTo) ∷ last) ((exported_to g m p c, rules.NotExportedTo) ∷ last) (exported_stays s f g adds m p)
-          (judged_stays (exported_to f m p c) (exported_to g m p c) rules.NotExportedTo last last (exported_to_stays s f g adds m p c) (λ e. e))
+      (judged_stays (exported_to f m p c) (exported_to g m p c) rules.NotExportedTo last last (exported_to_stays s f g adds m p c) (λ e. e))
 
   pub classes_stay : class_verdict f from to public ≡ Granted → class_verdict g from to public ≡ Granted
   classes_stay = by (is_one_module from to)
@@ -114,9 +114,9 @@ module _ (s : Statement) (f g : State) (from to : Place) (public : Bool) (adds :
       let p = to.package in
       let c = from.module in
       or_stays (is_one_module from to) (is_shown_to f from to public a || open_to f m p c) (is_one_module from to) (is_shown_to g from to public a || open_to g m p c) (λ e. e)
-          (or_stays (is_shown_to f from to public a) (open_to f m p c) (is_shown_to g from to public a) (open_to g m p c)
-              (and_stays public (is_shown a && exported_to f m p c) (is_shown a && exported_to g m p c) (and_stays (is_shown a) (exported_to f m p c) (exported_to g m p c) (exported_to_stays s f g adds m p c)))
-              (open_to_stays s f g adds m p c))
+      (or_stays (is_shown_to f from to public a) (open_to f m p c) (is_shown_to g from to public a) (open_to g m p c)
+      (and_stays public (is_shown a && exported_to f m p c) (is_shown a && exported_to g m p c) (and_stays (is_shown a) (exported_to f m p c) (exported_to g m p c) (exported_to_stays s f g adds m p c)))
+      (open_to_stays s f g adds m p c))
 
   pub deep_stays : (a : MemberAccess) → deep_verdict f from to public a ≡ Granted → deep_verdict g from to public a ≡ Granted
   deep_stays a e = by (may_go_deep f from to public a) (opened f to.module to.package) refl e

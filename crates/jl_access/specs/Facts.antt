@@ -1,6 +1,6 @@
 -- Facts: the modules, and a list of statements about them that only grows (`java.lang.Module`).
-use Rattle.std.specs.Prelude.{◌≡◌, ℕ, zero, suc, ◌<◌, ◌≤◌, ◌+◌, List, [], ◌∷◌, ◌++◌, length, Option, None, Some, Bool, true, false, ◌&&◌, ◌||◌, ◌==◌, IsTrue, slice_get, ⊤}
-use Rattle.std.specs.List.{list_any, AllByRecursion}
+use Rattle.std.specs.Prelude.{◌≡◌, ℕ, zero, suc, ◌<◌, ◌≤◌, List, [], ◌∷◌, ◌++◌, length, Option, None, Some, Bool, true, false, ◌&&◌, ◌||◌, ◌==◌, IsTrue, slice_get, ⊤}
+use Rattle.std.specs.List.{list_any}
 use Rattle.jl_logic.specs.Order.{is_text}
 use Rattle.jl_prim.specs.declared.numbers.ModuleId.{ModuleId}
 use Rattle.jl_access.specs.declared.statement.Reach.{Reach}

@@ -1,12 +1,9 @@
 -- How facts are kept: names by their numbers, and tables beside the list.
-use Rattle.std.specs.Prelude.{◌≡◌, ℕ, ◌+◌, ◌<◌, ◌≤◌, List, [], ◌∷◌, length, map, Option, None, Some, Bool, true, false, ◌&&◌, ◌==◌, slice_get, ⊤}
-use Rattle.std.specs.List.{list_any, AllByRecursion}
+use Rattle.std.specs.Prelude.{◌≡◌, ℕ, ◌+◌, ◌<◌, ◌≤◌, List, [], length, Option, None, Some, Bool, true, false, ◌&&◌, ◌==◌, slice_get}
+use Rattle.std.specs.List.{list_any}
 use Rattle.jl_logic.specs.Order.{is_text}
-use Rattle.jl_prim.specs.declared.numbers.ModuleId.{ModuleId}
 use Rattle.jl_access.specs.declared.statement.Reach.{Reach}
 use Rattle.jl_access.specs.declared.statement.Reach.TheVariants.{All, To, Nobody}
-use Rattle.jl_access.specs.declared.statement.Statement.{Statement}
-use Rattle.jl_access.specs.declared.statement.Statement.TheVariants as statements
 use Rattle.jl_access.specs.declared.table.About.{About}
 use Rattle.jl_access.specs.declared.table.About.TheVariants.{Exports, Opens, Uses}
 use Rattle.jl_access.specs.declared.table.Fact.{Fact}

@@ -1,5 +1,5 @@
 -- Laws of verdicts: grants last, denials name the first condition that fails, and what a grant between two modules is.
-use Rattle.std.specs.Prelude.{◌≡◌, ◌↔◌, ℕ, List, [], ◌∷◌, ◌++◌, Option, Bool, true, false}
+use Rattle.std.specs.Prelude.{◌≡◌, ◌↔◌, ℕ, List, ◌∷◌, ◌++◌, Option, Bool, true, false}
 use Rattle.std.specs.List.{AllByRecursion}
 use Rattle.jl_prim.specs.declared.numbers.ModuleId.{ModuleId}
 use Rattle.jl_access.specs.declared.statement.Statement.{Statement}

@@ -1,5 +1,5 @@
 -- The report: notes grouped by key, in the order in which keys first occur.
-use Rattle.std.specs.Prelude.{◌≡◌, ℕ, ◌+◌, List, [], ◌∷◌, ◌++◌, length, map, filter, Option, None, Some, Bool, true, false, ◌&&◌, ◌==◌, not, min, if◌then◌else◌}
+use Rattle.std.specs.Prelude.{ℕ, ◌+◌, List, [], ◌∷◌, ◌++◌, length, map, filter, Option, None, Some, Bool, true, false, ◌&&◌, ◌==◌, min, if◌then◌else◌}
 use Rattle.std.specs.List.{list_any}
 use Rattle.jl_logic.specs.Counts.{last_count}
 use Rattle.jl_logic.specs.Order.{is_text}

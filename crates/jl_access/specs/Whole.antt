@@ -1,5 +1,5 @@
 -- How the parts of facts make statements.
-use Rattle.std.specs.Prelude.{◌≡◌, ℕ, ◌<◌, ◌≤◌, List, length, Bool, true, false, ◌&&◌, ⊤}
+use Rattle.std.specs.Prelude.{ℕ, ◌<◌, ◌≤◌, List, length, Bool, false, ◌&&◌, ⊤}
 use Rattle.std.specs.List.{AllByRecursion}
 use Rattle.jl_logic.specs.Order.{is_text}
 use Rattle.jl_access.specs.declared.facts.Module.{Module}
@@ -10,7 +10,7 @@ use Rattle.jl_access.specs.declared.table.About.{About}
 use Rattle.jl_access.specs.declared.table.About.TheVariants.{Exports, Opens, Uses}
 use Rattle.jl_access.specs.declared.table.Fact.{Fact}
 use Rattle.jl_access.specs.declared.table.Fact.TheVariants.{Reads, Of}
-use Rattle.jl_access.specs.Facts.{Declared, is_same}
+use Rattle.jl_access.specs.Facts.{Declared}
 use Rattle.jl_access.specs.Kept.{Texts, Known, text_at, is_same_about}
 
 -- ---- modules

@@ -27,7 +27,12 @@ impl Facts {
 
     /// States that m exports a package of its own, to one module or, where none is given, to all
     /// (`Module.addExports`).
-    pub fn add_exports(&mut self, m: ModuleId, name: &[u8], to: Option<ModuleId>) -> Result<(), FactsEnd>
+    pub fn add_exports(
+        &mut self,
+        m: ModuleId,
+        name: &[u8],
+        to: Option<ModuleId>,
+    ) -> Result<(), FactsEnd>
         requires module { IsModule self.old m }
         requires target { OptionExists self.old to }
         requires package { IsTrue (has_package self.old m name.now) }
@@ -41,7 +46,12 @@ impl Facts {
     }
 
     /// States that m opens a package of its own, likewise (`Module.addOpens`).
-    pub fn add_opens(&mut self, m: ModuleId, name: &[u8], to: Option<ModuleId>) -> Result<(), FactsEnd>
+    pub fn add_opens(
+        &mut self,
+        m: ModuleId,
+        name: &[u8],
+        to: Option<ModuleId>,
+    ) -> Result<(), FactsEnd>
         requires module { IsModule self.old m }
         requires target { OptionExists self.old to }
         requires package { IsTrue (has_package self.old m name.now) }

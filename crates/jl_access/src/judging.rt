@@ -29,7 +29,13 @@ impl Facts {
     }
 
     /// Whether a class may use a member by reflection. Reading is not asked for.
-    pub fn reflect_verdict(&self, from: &Place, to: &Place, public: bool, a: &MemberAccess) -> Verdict
+    pub fn reflect_verdict(
+        &self,
+        from: &Place,
+        to: &Place,
+        public: bool,
+        a: &MemberAccess,
+    ) -> Verdict
         ensures { result ≡ verdicts.reflect_verdict self.now from.now to.now public a.now }
     {
         if a.same_class {
@@ -118,9 +124,7 @@ impl Facts {
     fn is_shown_to(&self, from: &Place, to: &Place, public: bool, a: &MemberAccess) -> bool
         ensures { result ≡ verdicts.is_shown_to self.now from.now to.now public a.now }
     {
-        public
-            && is_shown(a)
-            && self.exported_to(to.module, to.package.as_bytes(), from.module)
+        public && is_shown(a) && self.exported_to(to.module, to.package.as_bytes(), from.module)
     }
 }
 

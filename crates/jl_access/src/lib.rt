@@ -20,3 +20,6 @@ pub use law::{denials_name_their_rules, grants_by_three, grants_stay};
 pub use report::{Key, NoteKind, Report};
 pub use statement::{Reach, Statement};
 pub use verdict::{Access, MemberAccess, Place, Rule, Verdict};
+
+#[cfg(test)]
+mod tests;

@@ -79,7 +79,8 @@ impl Facts {
     fn says_opened_to(&self, m: ModuleId, name: &[u8], c: ModuleId) -> bool
         ensures { result ≡ list_any (facts.says_opens (facts.reach_to c) m name.now) self.now.statements }
     {
-        self.says(About::Opens(m, Reach::All), name) || self.says(About::Opens(m, Reach::To(c)), name)
+        self.says(About::Opens(m, Reach::All), name)
+            || self.says(About::Opens(m, Reach::To(c)), name)
     }
 
     /// Whether m exports the package, to whomever. What is open is exported.

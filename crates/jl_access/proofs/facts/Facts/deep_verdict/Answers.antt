@@ -1,4 +1,4 @@
-use Rattle.std.proofs.Common.{◌≡◌, ◌∙◌, Bool, true, false, if◌then◌else◌, refl, sym, ap, ap₂}
+use Rattle.std.proofs.Common.{◌∙◌, Bool, true, false, if◌then◌else◌, sym, ap₂}
 use Rattle.jl_access.specs.declared.verdict.Rule.TheVariants as rules
 use Rattle.jl_access.specs.declared.verdict.Verdict.{Verdict}
 use Rattle.jl_access.specs.declared.verdict.Verdict.TheVariants.{Granted, Denied}
@@ -14,11 +14,11 @@ returns-then-open_somewhere c =
     let f = c.args.self.now in
     let to = c.args.to.now in
     sym (ap₂ deeper (sym c.may_go_deep.ensures ∙ c.if-may_go_deep.false)
-        (asked (opened f to.module) c.as_bytes.result.now to.package c.open_somewhere.result true c.open_somewhere.ensures c.as_bytes.ensures c.if-open_somewhere.true))
+    (asked (opened f to.module) c.as_bytes.result.now to.package c.open_somewhere.result true c.open_somewhere.ensures c.as_bytes.ensures c.if-open_somewhere.true))
 
 pub returns : goal.returns
 returns c =
     let f = c.args.self.now in
     let to = c.args.to.now in
     sym (ap₂ deeper (sym c.may_go_deep.ensures ∙ c.if-may_go_deep.false)
-        (asked (opened f to.module) c.as_bytes.result.now to.package c.open_somewhere.result false c.open_somewhere.ensures c.as_bytes.ensures c.if-open_somewhere.false))
+    (asked (opened f to.module) c.as_bytes.result.now to.package c.open_somewhere.result false c.open_somewhere.ensures c.as_bytes.ensures c.if-open_somewhere.false))

@@ -10,4 +10,4 @@ returns-else-open_to_all c =
     let f = c.args.self.now in
     let p = c.args.name.now in
     or_else (open_to_all f c.args.m p) (list_any (says_exports reaches_all c.args.m p) f.statements) c.open_to_all.result c.says.result c.open_to_all.ensures c.if-open_to_all.false
-        (c.says.ensures ∙ sym (exports_all_asked c.args.m p f.statements))
+    (c.says.ensures ∙ sym (exports_all_asked c.args.m p f.statements))

@@ -8,9 +8,9 @@ returns-in-Some c =
     let keys = c.self.inside.texts.keys in
     let key = c.in-Some.field-0-1.now in
     subst (λ n. IsNumberOf n.texts c.args.text.now (Some c.in-Some.number)) c.self.view_is
-        (number_found (λ v. v.items) keys c.args.text.now c.in-Some.number key c.self.invariant.0 c.in-Some.ensures.stored (found_text (λ v. v.items) keys c.args.text.now key c.in-Some.ensures.key))
+    (number_found (λ v. v.items) keys c.args.text.now c.in-Some.number key c.self.invariant.0 c.in-Some.ensures.stored (found_text (λ v. v.items) keys c.args.text.now key c.in-Some.ensures.key))
 
 pub returns-in-None : goal.returns-in-None
 returns-in-None c =
     subst (λ n. IsNumberOf n.texts c.args.text.now None) c.self.view_is
-        (number_missing (λ v. v.items) c.self.inside.texts.keys c.args.text.now (sym c.in-None.ensures.found))
+    (number_missing (λ v. v.items) c.self.inside.texts.keys c.args.text.now (sym c.in-None.ensures.found))

@@ -2,7 +2,7 @@ use Rattle.std.proofs.Common.{◌≡◌, ◌∙◌, ap, sym, map}
 use Rattle.indexmap.specs.IndexMap.{insert_entry}
 use Rattle.jl_access.specs.contracts.report.KeyPartialEq.TheImpl as keys
 use Rattle.jl_access.specs.Counting.{after_note}
-use Rattle.jl_access.specs.Reports.{Line, noted}
+use Rattle.jl_access.specs.Reports.{noted}
 use Rattle.jl_access.proofs.Noting.{noted_entries, lines_with, line_in}
 use Rattle.jl_access.proofs.report.Report.note.Goals as goal
 
