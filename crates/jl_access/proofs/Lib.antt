@@ -6,6 +6,7 @@ pub mod Modules
 pub mod Naming
 pub mod Noting
 pub mod Numbers
+mod Rows
 pub mod Same
 pub mod Saying
 pub mod Stating
