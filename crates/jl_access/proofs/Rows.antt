@@ -21,17 +21,17 @@ use Rattle.jl_access.specs.Verdicts.{class_verdict, member_verdict, reflect_verd
 
 facts : List Statement → State
 facts ss = record {
-    modules = record { is_open = false; packages = (112 ∷ []) ∷ [] } ∷ record { is_open = false; packages = (113 ∷ []) ∷ [] } ∷ [];
-    statements = ss;
-    spare_modules = 0;
-    spare_statements = 0;
+  modules = record { is_open = false; packages = (112 ∷ []) ∷ [] } ∷ record { is_open = false; packages = (113 ∷ []) ∷ [] } ∷ [];
+  statements = ss;
+  spare_modules = 0;
+  spare_statements = 0;
 }
 
 from : Place
-from = record { module = record { 0 = 1 }; loader = record { 0 = 1 }; package = 112 ∷ [] }
+from = record { «module» = record { 0 = 1 }; loader = record { 0 = 1 }; «package» = 112 ∷ [] }
 
 to : Place
-to = record { module = record { 0 = 2 }; loader = record { 0 = 1 }; package = 113 ∷ [] }
+to = record { «module» = record { 0 = 2 }; loader = record { 0 = 1 }; «package» = 113 ∷ [] }
 
 member : Access → Bool → Bool → MemberAccess
 member a static subclass = record { access = a; is_static = static; same_class = false; same_package = false; subclass = subclass; named_related = false }
@@ -101,7 +101,7 @@ a_change_denied = refl
 -- ---- the report
 
 key : ℕ → Verdict → Key
-key m v = record { from = record { 0 = m }; to = record { 0 = 2 }; package = Some (113 ∷ []); kind = kinds.Class; verdict = v }
+key m v = record { from = record { 0 = m }; to = record { 0 = 2 }; «package» = Some (113 ∷ []); kind = kinds.Class; verdict = v }
 
 note : ℕ → Verdict → ℕ → Note
 note m v step = record { key = key m v; step = step }

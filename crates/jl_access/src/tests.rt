@@ -356,22 +356,35 @@ fn services_and_changes(rt: HostRuntime) -> Result<(), Fail> {
 }
 
 /// Notes in order, where each after the first changes one part of the key, and the last is the first again.
-const NOTES: [(u32, u32, Option<&str>, NoteKind, Verdict); 8] = [
-    (1, 2, Some("p"), NoteKind::Class, Verdict::Granted),
-    (3, 2, Some("p"), NoteKind::Class, Verdict::Granted),
-    (1, 3, Some("p"), NoteKind::Class, Verdict::Granted),
-    (1, 2, Some("q"), NoteKind::Class, Verdict::Granted),
-    (1, 2, None, NoteKind::Class, Verdict::Granted),
-    (1, 2, Some("p"), NoteKind::Deep, Verdict::Granted),
-    (
-        1,
-        2,
-        Some("p"),
-        NoteKind::Class,
-        Verdict::Denied(Rule::NotRead),
-    ),
-    (1, 2, Some("p"), NoteKind::Class, Verdict::Granted),
+const NOTES: [(u64, u32, u32, Option<&str>, NoteKind, Option<Rule>); 8] = [
+    (10, 1, 2, Some("p"), NoteKind::Class, None),
+    (11, 3, 2, Some("p"), NoteKind::Class, None),
+    (12, 1, 3, Some("p"), NoteKind::Class, None),
+    (13, 1, 2, Some("q"), NoteKind::Class, None),
+    (14, 1, 2, None, NoteKind::Class, None),
+    (15, 1, 2, Some("p"), NoteKind::Deep, None),
+    (16, 1, 2, Some("p"), NoteKind::Class, Some(Rule::NotRead)),
+    (17, 1, 2, Some("p"), NoteKind::Class, None),
 ];
+
+/// The first step and the count of each line.
+const LINES: [(usize, Option<(u64, u64)>); 8] = [
+    (0, Some((10, 2))),
+    (1, Some((11, 1))),
+    (2, Some((12, 1))),
+    (3, Some((13, 1))),
+    (4, Some((14, 1))),
+    (5, Some((15, 1))),
+    (6, Some((16, 1))),
+    (7, None),
+];
+
+fn verdict_of(rule: Option<Rule>) -> Verdict {
+    match rule {
+        None => Verdict::Granted,
+        Some(rule) => Verdict::Denied(rule),
+    }
+}
 
 fn name_of(alloc: Global, package: Option<&str>) -> Result<Option<Name>, Fail> {
     match package {
@@ -392,19 +405,18 @@ fn counted(report: &Report, i: usize) -> Option<(u64, u64)> {
 fn notes_are_grouped(rt: HostRuntime) -> Result<(), Fail> {
     let alloc = rt.alloc();
     let mut report = Report::new(alloc);
-    let mut step = 10;
-    for (from, to, package, kind, verdict) in NOTES {
+    for (step, from, to, package, kind, rule) in NOTES {
         let key = Key {
             from: ModuleId(from),
             to: ModuleId(to),
             package: name_of(alloc, package)?,
             kind,
-            verdict,
+            verdict: verdict_of(rule),
         };
         report.note(key, step)?;
-        step += 1;
     }
-    let ends = counted(&report, 0) == Some((10, 2)) && counted(&report, 7) == None;
-    assert!(rt; ends && (1..7).all(|i| counted(&report, i) == Some((10 + i as u64, 1))));
+    for (i, line) in LINES {
+        assert!(rt; counted(&report, i) == line);
+    }
     Ok(())
 }
