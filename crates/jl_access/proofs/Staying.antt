@@ -1,0 +1,135 @@
+-- What is granted stays granted.
+use Rattle.std.proofs.Common.{◌≡◌, List, [], ◌∷◌, Bool, true, false, ◌&&◌, ◌||◌, if◌then◌else◌, Option, Some, None, refl, ◌∙◌, ap, ℕ}
+use Rattle.std.specs.List.{list_any}
+use Rattle.std.proofs.lemmas.List.Folds.{list_any-append}
+use Rattle.jl_prim.specs.declared.numbers.ModuleId.{ModuleId}
+use Rattle.jl_access.specs.declared.statement.Statement.{Statement}
+use Rattle.jl_access.specs.declared.verdict.Place.{Place}
+use Rattle.jl_access.specs.declared.verdict.MemberAccess.{MemberAccess}
+use Rattle.jl_access.specs.declared.verdict.Rule.{Rule}
+use Rattle.jl_access.specs.declared.verdict.Rule.TheVariants as rules
+use Rattle.jl_access.specs.declared.verdict.Verdict.{Verdict}
+use Rattle.jl_access.specs.declared.verdict.Verdict.TheVariants.{Granted, Denied}
+use Rattle.jl_access.specs.Facts.{State, Adds, numbered, is_open_in, is_open_module, is_same, says_reads, says_opens, says_exports, says_uses, anywhere, reach_to, reads, opened, open_to, exported, exported_to, uses}
+use Rattle.jl_access.specs.Verdicts.{judged, then_judged, class_verdict, within_module, beyond_reading, is_one_module, member_verdict, by_its_class, reflect_verdict, reflect_conditions, is_shown, is_shown_to, may_go_deep, deep_verdict, service_verdict, caller_verdict}
+
+-- ---- booleans
+
+or_stays : (a b c d : Bool) → (a ≡ true → c ≡ true) → (b ≡ true → d ≡ true) → (a || b) ≡ true → (c || d) ≡ true
+or_stays true b c d f g e = ap (λ x. x || d) (f refl)
+or_stays false b c d f g e = ap (λ x. c || x) (g e) ∙ or_true c
+  where
+    or_true : (b : Bool) → (b || true) ≡ true
+    or_true true = refl
+    or_true false = refl
+
+and_stays : (a b d : Bool) → (b ≡ true → d ≡ true) → (a && b) ≡ true → (a && d) ≡ true
+and_stays true b d g e = g e
+and_stays false b d g e = e
+
+-- ---- facts
+
+module _ (s : Statement) (f g : State) (adds : Adds s f g) where
+  more : (p : Statement → Bool) → list_any p f.statements ≡ true → list_any p g.statements ≡ true
+  more p e = ap (list_any p) adds.statements ∙ list_any-append p f.statements (s ∷ []) ∙ ap (λ b. b || list_any p (s ∷ [])) e
+
+  open_stays : (m : ModuleId) → is_open_module f m ≡ true → is_open_module g m ≡ true
+  open_stays m e = ap (λ ms. is_open_in (numbered ms m.0)) adds.modules ∙ e
+
+  reads_stay : (a b : ModuleId) → reads f a b ≡ true → reads g a b ≡ true
+  reads_stay a b = or_stays (is_same a b) (list_any (says_reads a b) f.statements) (is_same a b) (list_any (says_reads a b) g.statements) (λ e. e) (more (says_reads a b))
+
+  opened_stays : (m : ModuleId) (p : List ℕ) → opened f m p ≡ true → opened g m p ≡ true
+  opened_stays m p = or_stays (is_open_module f m) (list_any (says_opens anywhere m p) f.statements) (is_open_module g m) (list_any (says_opens anywhere m p) g.statements) (open_stays m) (more (says_opens anywhere m p))
+
+  open_to_stays : (m : ModuleId) (p : List ℕ) (c : ModuleId) → open_to f m p c ≡ true → open_to g m p c ≡ true
+  open_to_stays m p c =
+      or_stays (is_same m c) (is_open_module f m || list_any (says_opens (reach_to c) m p) f.statements) (is_same m c) (is_open_module g m || list_any (says_opens (reach_to c) m p) g.statements) (λ e. e)
+      (or_stays (is_open_module f m) (list_any (says_opens (reach_to c) m p) f.statements) (is_open_module g m) (list_any (says_opens (reach_to c) m p) g.statements) (open_stays m) (more (says_opens (reach_to c) m p)))
+
+  exported_stays : (m : ModuleId) (p : List ℕ) → exported f m p ≡ true → exported g m p ≡ true
+  exported_stays m p = or_stays (opened f m p) (list_any (says_exports anywhere m p) f.statements) (opened g m p) (list_any (says_exports anywhere m p) g.statements) (opened_stays m p) (more (says_exports anywhere m p))
+
+  exported_to_stays : (m : ModuleId) (p : List ℕ) (c : ModuleId) → exported_to f m p c ≡ true → exported_to g m p c ≡ true
+  exported_to_stays m p c = or_stays (open_to f m p c) (list_any (says_exports (reach_to c) m p) f.statements) (open_to g m p c) (list_any (says_exports (reach_to c) m p) g.statements) (open_to_stays m p c) (more (says_exports (reach_to c) m p))
+
+  uses_stay : (m : ModuleId) (t : List ℕ) → uses f m t ≡ true → uses g m t ≡ true
+  uses_stay m t = more (says_uses m t)
+
+-- ---- verdicts
+
+-- a grant has each condition
+pub granted_first : (c : Bool) (r : Rule) (cs : List (Bool × Rule)) → judged ((c, r) ∷ cs) ≡ Granted → (c ≡ true) × (judged cs ≡ Granted)
+granted_first true r cs e = (refl, e)
+granted_first false r cs e = absurd cc
+
+judged_stays : (c d : Bool) (r : Rule) (cs ds : List (Bool × Rule)) → (c ≡ true → d ≡ true) → (judged cs ≡ Granted → judged ds ≡ Granted) → judged ((c, r) ∷ cs) ≡ Granted → judged ((d, r) ∷ ds) ≡ Granted
+judged_stays c d r cs ds f h e =
+    let g = granted_first c r cs e in
+    ap (λ b. if b then judged ds else Denied r) (f g.0) ∙ h g.1
+
+then_granted : (v w : Verdict) → then_judged v w ≡ Granted → (v ≡ Granted) × (w ≡ Granted)
+then_granted Granted w e = (refl, e)
+then_granted (Denied r) w e = absurd cc
+
+module _ (s : Statement) (f g : State) (from to : Place) (public : Bool) (adds : Adds s f g) where
+  beyond_stays : judged (beyond_reading f from to public) ≡ Granted → judged (beyond_reading g from to public) ≡ Granted
+  beyond_stays =
+      let m = to.module in
+      let p = to.package in
+      let c = from.module in
+      let last = (public, rules.ClassNotPublic) ∷ [] in
+      judged_stays (exported f m p) (exported g m p) rules.NotExported ((exported_to f m p c, rules.NotExportedTo) ∷ last) ((exported_to g m p c, rules.NotExportedTo) ∷ last) (exported_stays s f g adds m p)
+      (judged_stays (exported_to f m p c) (exported_to g m p c) rules.NotExportedTo last last (exported_to_stays s f g adds m p c) (λ e. e))
+
+  pub classes_stay : class_verdict f from to public ≡ Granted → class_verdict g from to public ≡ Granted
+  classes_stay = by (is_one_module from to)
+    where
+      by : (b : Bool) → judged (if b then within_module from to public else (reads f from.module to.module, rules.NotRead) ∷ beyond_reading f from to public) ≡ Granted
+          → judged (if b then within_module from to public else (reads g from.module to.module, rules.NotRead) ∷ beyond_reading g from to public) ≡ Granted
+      by true e = e
+      by false e = judged_stays (reads f from.module to.module) (reads g from.module to.module) rules.NotRead (beyond_reading f from to public) (beyond_reading g from to public) (reads_stay s f g adds from.module to.module) beyond_stays e
+
+  reflect_stays : judged (reflect_conditions f from to public) ≡ Granted → judged (reflect_conditions g from to public) ≡ Granted
+  reflect_stays = by (is_one_module from to)
+    where
+      by : (b : Bool) → judged (if b then within_module from to public else beyond_reading f from to public) ≡ Granted
+          → judged (if b then within_module from to public else beyond_reading g from to public) ≡ Granted
+      by true e = e
+      by false e = beyond_stays e
+
+  pub reflection_stays : (a : MemberAccess) → reflect_verdict f from to public a ≡ Granted → reflect_verdict g from to public a ≡ Granted
+  reflection_stays a = by a.same_class
+    where
+      by : (b : Bool) → (if b then Granted else then_judged (judged (reflect_conditions f from to public)) (member_verdict (by_its_class a))) ≡ Granted
+          → (if b then Granted else then_judged (judged (reflect_conditions g from to public)) (member_verdict (by_its_class a))) ≡ Granted
+      by true e = e
+      by false e =
+          let h = then_granted (judged (reflect_conditions f from to public)) (member_verdict (by_its_class a)) e in
+          ap (λ v. then_judged v (member_verdict (by_its_class a))) (reflect_stays h.0) ∙ h.1
+
+  deep_may_stay : (a : MemberAccess) → may_go_deep f from to public a ≡ true → may_go_deep g from to public a ≡ true
+  deep_may_stay a =
+      let m = to.module in
+      let p = to.package in
+      let c = from.module in
+      or_stays (is_one_module from to) (is_shown_to f from to public a || open_to f m p c) (is_one_module from to) (is_shown_to g from to public a || open_to g m p c) (λ e. e)
+      (or_stays (is_shown_to f from to public a) (open_to f m p c) (is_shown_to g from to public a) (open_to g m p c)
+      (and_stays public (is_shown a && exported_to f m p c) (is_shown a && exported_to g m p c) (and_stays (is_shown a) (exported_to f m p c) (exported_to g m p c) (exported_to_stays s f g adds m p c)))
+      (open_to_stays s f g adds m p c))
+
+  pub deep_stays : (a : MemberAccess) → deep_verdict f from to public a ≡ Granted → deep_verdict g from to public a ≡ Granted
+  deep_stays a e = by (may_go_deep f from to public a) (opened f to.module to.package) refl e
+    where
+      by : (b o : Bool) → may_go_deep f from to public a ≡ b → (if b then Granted else (if o then Denied rules.NotOpenTo else Denied rules.NotOpen)) ≡ Granted → deep_verdict g from to public a ≡ Granted
+      by true o h e = ap (λ b. if b then Granted else (if opened g to.module to.package then Denied rules.NotOpenTo else Denied rules.NotOpen)) (deep_may_stay a h)
+      by false true h e = absurd cc
+      by false false h e = absurd cc
+
+module _ (s : Statement) (f g : State) (from : ModuleId) (adds : Adds s f g) where
+  pub services_stay : (service : List ℕ) → service_verdict f from service ≡ Granted → service_verdict g from service ≡ Granted
+  services_stay t = judged_stays (uses f from t) (uses g from t) rules.ServiceNotUsed [] [] (uses_stay s f g adds from t) (λ e. e)
+
+  pub changes_stay : (to : ModuleId) (opens : Option (List ℕ)) → caller_verdict f from to opens ≡ Granted → caller_verdict g from to opens ≡ Granted
+  changes_stay to None = λ e. e
+  changes_stay to (Some p) = judged_stays (open_to f to p from) (open_to g to p from) rules.CallerNotAllowed [] [] (open_to_stays s f g adds to p from) (λ e. e)

@@ -1,0 +1,7 @@
+pub mod Facts
+pub mod Kept
+pub mod Whole
+pub mod Verdicts
+pub mod Reports
+pub mod Counting
+pub mod Laws
