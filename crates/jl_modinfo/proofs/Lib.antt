@@ -1,1 +1,4 @@
 pub mod Standing
+pub mod NameLaws
+pub mod AttributesLoop
+pub mod OnceLaws

@@ -12,7 +12,6 @@ mod names;
 mod provides;
 mod reading;
 mod rules;
-mod stand_in;
 mod table;
 
 pub use fault::InfoFault;

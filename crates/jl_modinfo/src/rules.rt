@@ -4,6 +4,7 @@ ghost use Rattle.std.specs.Prelude.{◌≡◌, ◌++◌, ℕ, List, Ok, Err, IfO
 ghost use Rattle.std.specs.List.{list_any};
 ghost use Rattle.std.specs.Cmp.Lexicographic.{pointwise};
 ghost use Rattle.jl_logic.specs.Answers.{Gives};
+ghost use Rattle.jl_logic.specs.Order.{is_text};
 ghost use Rattle.jl_prim.specs.declared.declaration.Requires.{Requires};
 ghost use Rattle.jl_names.specs.Names.{package_of as package_in};
 ghost use Rattle.jl_modinfo.specs.Faults.{told};
@@ -14,7 +15,7 @@ ghost use Rattle.jl_modinfo.specs.Rules as rules;
 
 use crate::fault::InfoFault;
 use indexmap::IndexSet;
-use crate::stand_in::package_of;
+use jl_names::package_of;
 use jl_prim::{Copied, CopyEnd, Declaration, Grant, Items, Name, Provides, Requires};
 use std::alloc::Global;
 
@@ -32,6 +33,7 @@ pub fn ruled(alloc: Global, d: Declaration) -> Result<Declaration, InfoFault>
 }
 
 /// Whether `java.base` requires nothing, or another module requires `java.base`.
+#[tactic(auto, using(crate::proofs::NameLaws::required_among))]
 fn is_base_right(name: &str, required: &[Requires]) -> bool
     ensures { result ≡ rules.keeps_base_rule name.now required.now }
 {
@@ -44,7 +46,7 @@ fn is_base_right(name: &str, required: &[Requires]) -> bool
 
 /// Whether one of the entries is for the module with this name.
 fn is_required(required: &[Requires], name: &str) -> bool
-    ensures { result ≡ is_among name.now (map (λ (r : Requires). r.name) required.now) }
+    ensures { result ≡ list_any (λ (r : Requires). is_text r.name name.now) required.now }
 {
     required.iter().any(|entry| entry.name.as_str() == name)
 }

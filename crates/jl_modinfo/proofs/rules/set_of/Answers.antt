@@ -1,0 +1,24 @@
+use Rattle.std.proofs.Common.{rules, ◌≡◌, ◌++◌, ℕ, List, Ok, Err, IfOk, OnOk, IfErr, map, nat_eq, ◌+◌, ◌-◌, ◌*◌, ◌<◌, ◌≤◌, length, ◌/◌, ◌%◌, Bool, true, false, nat_lt, [], ◌∷◌, slice_index_or, slice_set, bit_and, bit_or, Fits, w8, w32, w64, Bor, MutBor}
+use Rattle.std.specs.List.{list_any}
+use Rattle.std.specs.Cmp.Lexicographic.{pointwise}
+use Rattle.jl_logic.specs.Answers.{Gives}
+use Rattle.jl_logic.specs.Order.{is_text}
+use Rattle.jl_prim.specs.declared.declaration.Requires.{Requires}
+use Rattle.jl_names.specs.Names.{package_of as package_in}
+use Rattle.jl_modinfo.specs.Faults.{told}
+use Rattle.jl_modinfo.specs.Meaning.{is_among}
+use Rattle.jl_modinfo.specs.Reading.{ruled as is_ruled}
+use Rattle.jl_modinfo.specs.Rules.{granted, implementing}
+use Rattle.jl_modinfo.proofs.rules.set_of.Goals as goal
+
+-- src/rules.rt:73:5
+pub loop-name-init : goal.loop-name-init
+loop-name-init c = ?
+
+-- src/rules.rt:73:5
+pub loop-name-preserved : goal.loop-name-preserved
+loop-name-preserved c = ?
+
+-- src/rules.rt:69:1
+pub returns : goal.returns
+returns c = ?
