@@ -1,11 +1,13 @@
 //! The rules on a whole declaration (JLS 7.7.1, 7.7.2, 7.7.4; JVMS 4.7.25, 4.7.26).
 
-ghost use Rattle.std.specs.Prelude.{◌≡◌, ◌++◌, ℕ, List, Ok, Err, IfOk, OnOk, IfErr, map, nat_eq};
+ghost use Rattle.std.specs.Prelude.{◌≡◌, ◌++◌, ℕ, List, Ok, IfOk, OnOk, IfErr, map, find, not, nat_eq};
 ghost use Rattle.std.specs.List.{list_any};
+ghost use Rattle.std.specs.Option.{option_copied};
 ghost use Rattle.std.specs.Cmp.Lexicographic.{pointwise};
 ghost use Rattle.jl_logic.specs.Answers.{Gives};
 ghost use Rattle.jl_logic.specs.Order.{is_text};
 ghost use Rattle.jl_prim.specs.declared.declaration.Requires.{Requires};
+ghost use Rattle.jl_modinfo.specs.declared.fault.InfoFault.TheVariants.{NoMemory};
 ghost use Rattle.jl_names.specs.Names.{package_of as package_in};
 ghost use Rattle.jl_modinfo.specs.Faults.{told};
 ghost use Rattle.jl_modinfo.specs.Meaning.{is_among};
@@ -33,7 +35,6 @@ pub fn ruled(alloc: Global, d: Declaration) -> Result<Declaration, InfoFault>
 }
 
 /// Whether `java.base` requires nothing, or another module requires `java.base`.
-#[tactic(auto, using(crate::proofs::NameLaws::required_among))]
 fn is_base_right(name: &str, required: &[Requires]) -> bool
     ensures { result ≡ rules.keeps_base_rule name.now required.now }
 {
@@ -57,12 +58,24 @@ fn missing_package(alloc: Global, d: &Declaration) -> Result<Option<Name>, InfoF
 {
     let named = named_packages(alloc, d)?;
     let packages = set_of(alloc, d.packages.as_slice())?;
-    for package in named.as_slice() {
-        if !packages.contains(package) {
-            return Ok(Some(package.copy()?));
-        }
+    match first_outside(named.as_slice(), &packages) {
+        Some(package) => Ok(Some(package.copy()?)),
+        None => Ok(None),
     }
-    Ok(None)
+}
+
+/// The first name that the set has not.
+fn first_outside<'a>(names: &'a [Name], all: &IndexSet<Name>) -> Option<&'a Name>
+    ensures { option_copied result ≡ find (λ name. not (list_any (pointwise nat_eq name) all.now.keys)) names.now }
+{
+    let mut rest = names;
+    while let [name, others @ ..] = rest {
+        if !all.contains(name) {
+            return Some(name);
+        }
+        rest = others;
+    }
+    None
 }
 
 /// The set of these names.
@@ -70,8 +83,10 @@ fn set_of(alloc: Global, names: &[Name]) -> Result<IndexSet<Name>, CopyEnd>
     ensures { IfOk result (λ all. (name : List ℕ) → list_any (pointwise nat_eq name) all.keys ≡ is_among name names.now) }
 {
     let mut all = IndexSet::new(alloc);
-    for name in names {
+    let mut rest = names;
+    while let [name, others @ ..] = rest {
         all.insert(name.copy()?)?;
+        rest = others;
     }
     Ok(all)
 }
@@ -89,10 +104,12 @@ fn named_packages(alloc: Global, d: &Declaration) -> Result<Items<Name>, InfoFau
 
 fn add_granted(named: &mut Items<Name>, grants: &[Grant]) -> Result<(), InfoFault>
     ensures ok { OnOk result (named.new ≡ named.old ++ granted grants.now) }
-    ensures err { IfErr result (λ e. e ≡ InfoFault.NoMemory) }
+    ensures err { IfErr result (λ e. e ≡ NoMemory) }
 {
-    for grant in grants {
+    let mut rest = grants;
+    while let [grant, others @ ..] = rest {
         named.push(grant.package.copy()?)?;
+        rest = others;
     }
     Ok(())
 }
@@ -103,10 +120,12 @@ fn add_implementing(
     provides: &[Provides],
 ) -> Result<(), InfoFault>
     ensures ok { OnOk result (named.new ≡ named.old ++ implementing provides.now) }
-    ensures err { IfErr result (λ e. e ≡ InfoFault.NoMemory) }
+    ensures err { IfErr result (λ e. e ≡ NoMemory) }
 {
-    for provided in provides {
+    let mut rest = provides;
+    while let [provided, others @ ..] = rest {
         add_packages(alloc, named, provided.implementations.as_slice())?;
+        rest = others;
     }
     Ok(())
 }
@@ -117,10 +136,12 @@ fn add_packages(
     classes: &[Name],
 ) -> Result<(), InfoFault>
     ensures ok { OnOk result (named.new ≡ named.old ++ map package_in classes.now) }
-    ensures err { IfErr result (λ e. e ≡ InfoFault.NoMemory) }
+    ensures err { IfErr result (λ e. e ≡ NoMemory) }
 {
-    for class in classes {
+    let mut rest = classes;
+    while let [class, others @ ..] = rest {
         named.push(package(alloc, class)?)?;
+        rest = others;
     }
     Ok(())
 }

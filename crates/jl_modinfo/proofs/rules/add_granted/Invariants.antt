@@ -1,16 +1,9 @@
-use Rattle.std.proofs.Common.{◌≡◌, ◌++◌, ℕ, List, Ok, Err, IfOk, OnOk, IfErr, map, nat_eq, ◌+◌, ◌-◌, ◌*◌, ◌<◌, ◌≤◌, length}
-use Rattle.std.specs.List.{list_any}
-use Rattle.std.specs.Cmp.Lexicographic.{pointwise}
-use Rattle.jl_logic.specs.Answers.{Gives}
-use Rattle.jl_logic.specs.Order.{is_text}
-use Rattle.jl_prim.specs.declared.declaration.Requires.{Requires}
-use Rattle.jl_names.specs.Names.{package_of as package_in}
-use Rattle.jl_modinfo.specs.Faults.{told}
-use Rattle.jl_modinfo.specs.Meaning.{is_among}
-use Rattle.jl_modinfo.specs.Reading.{ruled as is_ruled}
-use Rattle.jl_modinfo.specs.Rules.{granted, implementing}
-use Rattle.jl_modinfo.specs.Rules as rules
+use Rattle.std.proofs.Common.{length, ◌≡◌, ◌++◌}
+use Rattle.jl_modinfo.specs.Rules.{granted}
 use Rattle.jl_modinfo.proofs.rules.add_granted.Given as goal
 
-abbrev pub invariant-loop-grant : goal.invariant-loop-grant
-invariant-loop-grant l = ?
+abbrev pub invariant-loop-rest : goal.invariant-loop-rest
+invariant-loop-rest l = l.named ++ granted l.rest ≡ l.fn.named ++ granted l.grants
+
+abbrev pub decreases-loop-rest : goal.decreases-loop-rest
+decreases-loop-rest l = length l.rest

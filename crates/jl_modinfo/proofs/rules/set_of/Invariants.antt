@@ -1,16 +1,12 @@
-use Rattle.std.proofs.Common.{◌≡◌, ◌++◌, ℕ, List, Ok, Err, IfOk, OnOk, IfErr, map, nat_eq, ◌+◌, ◌-◌, ◌*◌, ◌<◌, ◌≤◌, length}
+use Rattle.std.proofs.Common.{length, ◌≡◌, ℕ, List, ◌||◌, nat_eq}
 use Rattle.std.specs.List.{list_any}
 use Rattle.std.specs.Cmp.Lexicographic.{pointwise}
-use Rattle.jl_logic.specs.Answers.{Gives}
-use Rattle.jl_logic.specs.Order.{is_text}
-use Rattle.jl_prim.specs.declared.declaration.Requires.{Requires}
-use Rattle.jl_names.specs.Names.{package_of as package_in}
-use Rattle.jl_modinfo.specs.Faults.{told}
 use Rattle.jl_modinfo.specs.Meaning.{is_among}
-use Rattle.jl_modinfo.specs.Reading.{ruled as is_ruled}
-use Rattle.jl_modinfo.specs.Rules.{granted, implementing}
-use Rattle.jl_modinfo.specs.Rules as rules
 use Rattle.jl_modinfo.proofs.rules.set_of.Given as goal
 
-abbrev pub invariant-loop-name : goal.invariant-loop-name
-invariant-loop-name l = ?
+-- what is put in and what is left to put in are the names
+abbrev pub invariant-loop-rest : goal.invariant-loop-rest
+invariant-loop-rest l = (name : List ℕ) → (list_any (pointwise nat_eq name) l.all.keys || is_among name l.rest) ≡ is_among name l.names
+
+abbrev pub decreases-loop-rest : goal.decreases-loop-rest
+decreases-loop-rest l = length l.rest
