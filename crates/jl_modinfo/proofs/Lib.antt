@@ -5,3 +5,5 @@ pub mod OnceLaws
 pub mod PackageLaws
 pub mod FrontLaws
 pub mod TableLaws
+pub mod EntryLaws
+pub mod BodyLaws
