@@ -7,3 +7,4 @@ pub mod FrontLaws
 pub mod TableLaws
 pub mod EntryLaws
 pub mod BodyLaws
+pub mod AttributeLaws

@@ -1,5 +1,5 @@
 use Rattle.std.proofs.Common.{arith}
-use Rattle.jl_modinfo.proofs.BodyLaws.{main_reads}
+use Rattle.jl_modinfo.proofs.AttributeLaws.{attributes_stand}
 use Rattle.jl_modinfo.proofs.FrontLaws.{empty_class_reads}
 use Rattle.jl_modinfo.proofs.reading.read_info.Goals as goal
 
