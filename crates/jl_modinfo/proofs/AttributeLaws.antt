@@ -376,3 +376,152 @@ attributes_stand pool bytes at x b e =
       stands = join (known (length r.attributes) (sym r.count) n) r.stands;
       declared = r.declared;
     }
+
+-- ---- what stands there is read
+
+abbrev pick : {V : Type 0} → List (List ℕ) → Option V → Option V
+pick [] o = None
+pick (c ∷ cs) o = o
+
+pick_behind : {V : Type 0} (cs : List (List ℕ)) (c : List ℕ) (o : Option V) → pick (cs ++ c ∷ []) o ≡ o
+pick_behind [] c o = refl
+pick_behind (b ∷ cs) c o = refl
+
+pick_all : {V : Type 0} (M : List ℕ → V → Type 0) (cs : List (List ℕ)) (o : Option V) → AtMostOne M cs o → pick cs o ≡ o
+pick_all M [] None one = refl
+pick_all M (c ∷ cs) None one = refl
+pick_all M [] (Some v) one = absurd cc
+pick_all M (c ∷ cs) (Some v) one = refl
+
+-- what the first attributes declare, by what all declare
+abbrev so_far : List Entry → Attributes → List Attribute → Attributes
+so_far pool all p = record {
+  «module» = pick (contents pool module_text p) all.«module»;
+  packages = pick (contents pool packages_text p) all.packages;
+  main = pick (contents pool main_text p) all.main;
+}
+
+same_attributes : (a b : Attributes) → a.«module» ≡ b.«module» → a.packages ≡ b.packages → a.main ≡ b.main → a ≡ b
+same_attributes a b e f g = λ i. record { «module» = e i; packages = f i; main = g i }
+
+once_first : {A B : Type 0} (name : List ℕ) (o : Option A) (r : Result B InfoFault) → o ≡ None → once name o r ≡ r
+once_first name None r e = refl
+once_first name (Some a) r e = absurd cc
+
+pick_none : {V : Type 0} (cs : List (List ℕ)) (o : Option V) → cs ≡ [] → pick cs o ≡ None
+pick_none [] o e = refl
+pick_none (c ∷ cs) o e = absurd cc
+
+pick_same : {V : Type 0} (cs ds : List (List ℕ)) (o : Option V) → ds ≡ cs → pick cs o ≡ pick ds o
+pick_same cs ds o e = ap (λ k. pick k o) (sym e)
+
+pick_pushed : {V : Type 0} (cs ds : List (List ℕ)) (c : List ℕ) (o : Option V) → ds ≡ cs ++ c ∷ [] → o ≡ pick ds o
+pick_pushed cs ds c o e = sym (ap (λ k. pick k o) e ∙ pick_behind cs c o)
+
+module_again : (pool : List Entry) (bytes : List ℕ) (all : Attributes) (p : List Attribute) (a : Attribute) (s : List Attribute) (mid next : ℕ) (name : List ℕ) → Declared pool (p ++ a ∷ s) all
+    → text_of pool a.index ≡ Some name → is_text name module_text ≡ true → Held bytes mid next a.content
+    → once name (so_far pool all p).«module» (with_module pool bytes (so_far pool all p) mid) ≡ Ok (so_far pool all (p ++ a ∷ []), next)
+unfolding with_module
+module_again pool bytes all p a s mid next name d named is h =
+    let text : text_of pool a.index ≡ Some module_text = named ∙ ap (λ (t : List ℕ). Some t) ((bytes_decides name module_text).0 is) in
+    let this = named_by pool module_text module_text a true text refl in
+    let one = slot_only (IsModuleContent pool) (contents pool module_text p) (contents pool module_text s) a.content all.«module»
+    (subst (λ cs. AtMostOne (IsModuleContent pool) cs all.«module») (split_named pool module_text p a s this) d.modules) in
+    let read = content_reads (module_at pool) (IsModuleContent pool) (module_laws pool) bytes mid next one.v a.content one.means h in
+    let same : record (so_far pool all p) { «module» = Some one.v } ≡ so_far pool all (p ++ a ∷ []) = same_attributes _ (so_far pool all (p ++ a ∷ []))
+    (sym one.is ∙ pick_pushed (contents pool module_text p) _ a.content all.«module» (split_named pool module_text p a [] this))
+    (pick_same (contents pool packages_text p) _ all.packages (push_other pool packages_text p a (named_by pool packages_text module_text a false text refl)))
+    (pick_same (contents pool main_text p) _ all.main (push_other pool main_text p a (named_by pool main_text module_text a false text refl))) in
+    once_first name _ _ (pick_none (contents pool module_text p) all.«module» one.none) ∙ bind_to _ read (ap (λ k. Ok (k, next)) same)
+
+packages_again : (pool : List Entry) (bytes : List ℕ) (all : Attributes) (p : List Attribute) (a : Attribute) (s : List Attribute) (mid next : ℕ) (name : List ℕ) → Declared pool (p ++ a ∷ s) all
+    → text_of pool a.index ≡ Some name → is_text name packages_text ≡ true → Held bytes mid next a.content
+    → once name (so_far pool all p).packages (with_packages pool bytes (so_far pool all p) mid) ≡ Ok (so_far pool all (p ++ a ∷ []), next)
+unfolding with_packages
+packages_again pool bytes all p a s mid next name d named is h =
+    let text : text_of pool a.index ≡ Some packages_text = named ∙ ap (λ (t : List ℕ). Some t) ((bytes_decides name packages_text).0 is) in
+    let this = named_by pool packages_text packages_text a true text refl in
+    let one = slot_only (IsPackagesContent pool) (contents pool packages_text p) (contents pool packages_text s) a.content all.packages
+    (subst (λ cs. AtMostOne (IsPackagesContent pool) cs all.packages) (split_named pool packages_text p a s this) d.packages) in
+    let read = content_reads (packages_at pool) (IsPackagesContent pool) (packages_laws pool) bytes mid next one.v a.content one.means h in
+    let same : record (so_far pool all p) { packages = Some one.v } ≡ so_far pool all (p ++ a ∷ []) = same_attributes _ (so_far pool all (p ++ a ∷ []))
+    (pick_same (contents pool module_text p) _ all.«module» (push_other pool module_text p a (named_by pool module_text packages_text a false text refl)))
+    (sym one.is ∙ pick_pushed (contents pool packages_text p) _ a.content all.packages (split_named pool packages_text p a [] this))
+    (pick_same (contents pool main_text p) _ all.main (push_other pool main_text p a (named_by pool main_text packages_text a false text refl))) in
+    once_first name _ _ (pick_none (contents pool packages_text p) all.packages one.none) ∙ bind_to _ read (ap (λ k. Ok (k, next)) same)
+
+main_again : (pool : List Entry) (bytes : List ℕ) (all : Attributes) (p : List Attribute) (a : Attribute) (s : List Attribute) (mid next : ℕ) (name : List ℕ) → Declared pool (p ++ a ∷ s) all
+    → text_of pool a.index ≡ Some name → is_text name main_text ≡ true → Held bytes mid next a.content
+    → once name (so_far pool all p).main (with_main pool bytes (so_far pool all p) mid) ≡ Ok (so_far pool all (p ++ a ∷ []), next)
+unfolding with_main
+main_again pool bytes all p a s mid next name d named is h =
+    let text : text_of pool a.index ≡ Some main_text = named ∙ ap (λ (t : List ℕ). Some t) ((bytes_decides name main_text).0 is) in
+    let this = named_by pool main_text main_text a true text refl in
+    let one = slot_only (IsMainContent pool) (contents pool main_text p) (contents pool main_text s) a.content all.main
+    (subst (λ cs. AtMostOne (IsMainContent pool) cs all.main) (split_named pool main_text p a s this) d.main) in
+    let read = content_reads (main_at pool) (IsMainContent pool) (main_laws pool) bytes mid next one.v a.content one.means h in
+    let same : record (so_far pool all p) { main = Some one.v } ≡ so_far pool all (p ++ a ∷ []) = same_attributes _ (so_far pool all (p ++ a ∷ []))
+    (pick_same (contents pool module_text p) _ all.«module» (push_other pool module_text p a (named_by pool module_text main_text a false text refl)))
+    (pick_same (contents pool packages_text p) _ all.packages (push_other pool packages_text p a (named_by pool packages_text main_text a false text refl)))
+    (sym one.is ∙ pick_pushed (contents pool main_text p) _ a.content all.main (split_named pool main_text p a [] this)) in
+    once_first name _ _ (pick_none (contents pool main_text p) all.main one.none) ∙ bind_to _ read (ap (λ k. Ok (k, next)) same)
+
+other_again : (pool : List Entry) (bytes : List ℕ) (all : Attributes) (p : List Attribute) (a : Attribute) (mid next : ℕ) (name : List ℕ) → text_of pool a.index ≡ Some name
+    → is_text name module_text ≡ false → is_text name packages_text ≡ false → is_text name main_text ≡ false → Held bytes mid next a.content
+    → passed_over bytes (so_far pool all p) mid ≡ Ok (so_far pool all (p ++ a ∷ []), next)
+unfolding passed_over
+other_again pool bytes all p a mid next name named no_module no_packages no_main h =
+    let same : so_far pool all p ≡ so_far pool all (p ++ a ∷ []) = same_attributes (so_far pool all p) (so_far pool all (p ++ a ∷ []))
+    (pick_same (contents pool module_text p) _ all.«module» (push_other pool module_text p a (named_by pool module_text name a false named no_module)))
+    (pick_same (contents pool packages_text p) _ all.packages (push_other pool packages_text p a (named_by pool packages_text name a false named no_packages)))
+    (pick_same (contents pool main_text p) _ all.main (push_other pool main_text p a (named_by pool main_text name a false named no_main))) in
+    bind_to _ (held_reads bytes mid next a.content h) (ap (λ k. Ok (k, next)) same)
+
+-- one of two
+cond_so : {A : Type 0} (b : Bool) (r q y : A) → (b ≡ true → r ≡ y) → (b ≡ false → q ≡ y) → cond b r q ≡ y
+cond_so true r q y on off = on refl
+cond_so false r q y on off = off refl
+
+attribute_again : (pool : List Entry) (bytes : List ℕ) (all : Attributes) (p : List Attribute) (a : Attribute) (s : List Attribute) (at next : ℕ) → Declared pool (p ++ a ∷ s) all → AttributeFits pool a
+    → Stands bytes at (attribute_bytes a) next → attribute_at pool bytes (so_far pool all p) at ≡ Ok (so_far pool all (p ++ a ∷ []), next)
+unfolding attribute_at
+attribute_again pool bytes all p a s at next d f t =
+    let s1 = first (two a.index) (four (length a.content) ++ a.content) t in
+    let s2 = second (two a.index) (four (length a.content) ++ a.content) t in
+    let h : Held bytes (at + 2) next a.content = record { small = f.1; stands = s2 } in
+    let name = f.2.0 in
+    let named = f.2.1 in
+    bind_to _ (number_read short 2 bytes at a.index (at + 2) f.0 s1) (rw named (cond_so (is_text name module_text) _ _ (Ok (so_far pool all (p ++ a ∷ []), next))
+    (λ is. module_again pool bytes all p a s (at + 2) next name d named is h)
+    (λ not_module. cond_so (is_text name packages_text) _ _ (Ok (so_far pool all (p ++ a ∷ []), next))
+    (λ is. packages_again pool bytes all p a s (at + 2) next name d named is h)
+    (λ not_packages. cond_so (is_text name main_text) _ _ (Ok (so_far pool all (p ++ a ∷ []), next))
+    (λ is. main_again pool bytes all p a s (at + 2) next name d named is h)
+    (λ not_main. other_again pool bytes all p a (at + 2) next name named not_module not_packages not_main h)))))
+
+run_again : (pool : List Entry) (bytes : List ℕ) (all : Attributes) (p s : List Attribute) (at next : ℕ) → Declared pool (p ++ s) all → AllByRecursion (AttributeFits pool) s
+    → Stands bytes at (flat_map attribute_bytes s) next → attributes_from (length s) pool bytes (so_far pool all p) at ≡ Ok (so_far pool all (p ++ s), next)
+unfolding attributes_from
+run_again pool bytes all p [] at next d f t =
+    let end : at ≡ next = omega (arith, t.ends) in
+    rw (append-nil p, end) refl
+run_again pool bytes all p (a ∷ s) at next d f t =
+    let s1 = first (attribute_bytes a) (flat_map attribute_bytes s) t in
+    let s2 = second (attribute_bytes a) (flat_map attribute_bytes s) t in
+    let shift : (p ++ a ∷ []) ++ s ≡ p ++ a ∷ s = append_assoc p (a ∷ []) s in
+    let one = attribute_again pool bytes all p a s at (at + length (attribute_bytes a)) d f.0 s1 in
+    let others = run_again pool bytes all (p ++ a ∷ []) s (at + length (attribute_bytes a)) next (subst (λ k. Declared pool k all) (sym shift) d) f.1 s2 in
+    bind_to _ one (others ∙ ap (λ k. Ok (so_far pool all k, next)) shift)
+
+-- all attributes that stand there are read
+pub attributes_again : (pool : List Entry) (bytes : List ℕ) (at next : ℕ) (attributes : List Attribute) (all : Attributes) → Declared pool attributes all → length attributes < 65536
+    → AllByRecursion (AttributeFits pool) attributes → Stands bytes at (counted attribute_bytes attributes) next → attributes_at pool bytes at ≡ Ok (all, next)
+unfolding attributes_at
+attributes_again pool bytes at next attributes all d few f t =
+    let s1 = first (two (length attributes)) (flat_map attribute_bytes attributes) t in
+    let s2 = second (two (length attributes)) (flat_map attribute_bytes attributes) t in
+    let same : so_far pool all attributes ≡ all = same_attributes (so_far pool all attributes) all
+    (pick_all (IsModuleContent pool) (contents pool module_text attributes) all.«module» d.modules)
+    (pick_all (IsPackagesContent pool) (contents pool packages_text attributes) all.packages d.packages)
+    (pick_all (IsMainContent pool) (contents pool main_text attributes) all.main d.main) in
+    bind_to _ (number_read short 2 bytes at (length attributes) (at + 2) few s1) (run_again pool bytes all [] attributes (at + 2) next d f s2 ∙ ap (λ k. Ok (k, next)) same)

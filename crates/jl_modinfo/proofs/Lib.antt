@@ -8,3 +8,4 @@ pub mod TableLaws
 pub mod EntryLaws
 pub mod BodyLaws
 pub mod AttributeLaws
+pub mod FileLaws
