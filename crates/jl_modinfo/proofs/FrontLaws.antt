@@ -8,7 +8,7 @@ use Rattle.jl_reading.proofs.Steps.{bind_ok, ok_is}
 use Rattle.jl_pool.specs.declared.entry.Entry.{Entry}
 use Rattle.jl_modinfo.specs.declared.fault.InfoFault.TheVariants as faults
 use Rattle.jl_modinfo.specs.Faults.{short}
-use Rattle.jl_modinfo.specs.Meaning.{class_named, is_module_info}
+use Rattle.jl_modinfo.specs.Meaning.{class_text, is_module_info}
 use Rattle.jl_modinfo.specs.Reading.{front_at, zero_at, this_at, empty_class_at}
 use Rattle.jl_modinfo.proofs.Standing.{two_read, four_read, number_read, join, first, second, known, ends_at, bind_to, not_ok, else_ok}
 
@@ -82,7 +82,7 @@ pub record EmptyClass (pool : List Entry) (bytes : List ℕ) (at next : ℕ) : T
   pub this : ℕ
   pub small : this < 65536
   pub stands : Stands bytes at (two 0x8000 ++ (two this ++ (two 0 ++ (two 0 ++ (two 0 ++ two 0))))) next
-  pub named : class_named pool this ≡ Some (codes "module-info")
+  pub named : class_text pool this ≡ Some (codes "module-info")
 
 names_it : (name : Option (List ℕ)) → is_module_info name ≡ true → name ≡ Some (codes "module-info")
 names_it None e = absurd cc
@@ -103,7 +103,7 @@ record This (pool : List Entry) (bytes : List ℕ) (at next : ℕ) : Type 0 wher
   this : ℕ
   small : this < 65536
   stands : Stands bytes at (two 0x8000 ++ two this) next
-  named : class_named pool this ≡ Some (codes "module-info")
+  named : class_text pool this ≡ Some (codes "module-info")
 
 this_stands : (pool : List Entry) (bytes : List ℕ) (at next : ℕ) → IsBytes bytes → this_at pool bytes at ≡ Ok next → This pool bytes at next
 unfolding this_at
@@ -111,17 +111,17 @@ this_stands pool bytes at next b e =
     let s1 = bind_ok (number_at short 2 bytes at) _ next e in
     let g1 = not_ok (eqb s1.0.0 0x8000) (faults.NotModule (codes "flags")) _ next s1.2 in
     let s2 = bind_ok (number_at short 2 bytes s1.0.1) _ next g1.1 in
-    let g2 = else_ok (is_module_info (class_named pool s2.0.0)) (faults.NotModule (codes "this")) (Ok s2.0.1) next s2.2 in
+    let g2 = else_ok (is_module_info (class_text pool s2.0.0)) (faults.NotModule (codes "this")) (Ok s2.0.1) next s2.2 in
     let n1 = two_read short bytes at s1.0 b s1.1 in
     let n2 = two_read short bytes s1.0.1 s2.0 b s2.1 in
     record {
       this = s2.0.0;
       small = n2.small;
       stands = ends_at next (ok_is _ _ g2.1) (join (known 0x8000 (eqb-true s1.0.0 0x8000 g1.0) n1) n2.stands);
-      named = names_it (class_named pool s2.0.0) g2.0;
+      named = names_it (class_text pool s2.0.0) g2.0;
     }
 
-this_reads : (pool : List Entry) (bytes : List ℕ) (at next this : ℕ) → this < 65536 → class_named pool this ≡ Some (codes "module-info")
+this_reads : (pool : List Entry) (bytes : List ℕ) (at next this : ℕ) → this < 65536 → class_text pool this ≡ Some (codes "module-info")
     → Stands bytes at (two 0x8000 ++ two this) next → this_at pool bytes at ≡ Ok next
 unfolding this_at
 this_reads pool bytes at next this small named s =

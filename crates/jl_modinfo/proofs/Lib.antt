@@ -1,7 +1,11 @@
-mod Rows
 pub mod Standing
-pub mod FrontLaws
 pub mod NameLaws
-pub mod ModuleLaws
+pub mod AttributesLoop
+pub mod OnceLaws
+pub mod PackageLaws
+pub mod FrontLaws
+pub mod TableLaws
+pub mod EntryLaws
+pub mod BodyLaws
+pub mod AttributeLaws
 pub mod FileLaws
-pub mod TextRows

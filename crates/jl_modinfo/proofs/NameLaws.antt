@@ -1,15 +1,14 @@
 -- Names that are apart, and whether one of them is there.
-use Rattle.std.proofs.Common.{◌≡◌, ℕ, zero, suc, List, [], ◌∷◌, ◌++◌, map, Bool, true, false, refl, sym, ◌∙◌, inl, inr, arith}
+use Rattle.std.proofs.Common.{◌≡◌, ℕ, zero, suc, List, [], ◌∷◌, ◌++◌, map, Bool, true, false, refl, sym, ap, subst, ◌∙◌, inl, inr, arith}
 use Rattle.std.specs.Prelude.{◌||◌, Contains, nat_eq}
 use Rattle.std.proofs.lemmas.List.Elements.{Contains-push_cases, Contains-append_cases, Contains-append_right}
 use Rattle.std.specs.Cmp.Lexicographic.{bytes_decides, pointwise, nat_list_eq_equiv}
 use Rattle.std.specs.List.{list_any}
-use Rattle.std.proofs.lemmas.List.{map_push}
 use Rattle.indexmap.specs.IndexSet.{insert_key}
-use Rattle.jl_prim.specs.declared.declaration.Requires.{Requires}
 use Rattle.jl_logic.specs.Lists.{AreDistinct}
 use Rattle.jl_logic.specs.Order.{is_text}
-use Rattle.jl_modinfo.specs.Meaning.{is_required}
+use Rattle.jl_prim.specs.declared.declaration.Requires.{Requires}
+use Rattle.jl_modinfo.specs.Meaning.{is_among}
 
 contains_first : {X : Type 0} (x y : X) (xs : List X) → y ≡ x → Contains (y ∷ xs) x
 contains_first x y xs e = (0, omega arith, e)
@@ -34,43 +33,76 @@ distinct_apart (y ∷ zs) x ys d c = elim (Contains-append_cases (y ∷ []) zs x
   | inr there ↦ distinct_apart zs x ys d.1 there
 ]
 
-abbrev pub names : List Requires → List (List ℕ)
-names required = map (λ (e : Requires). e.name) required
-
-neither : (a b : Bool) → (a || b) ≡ false → (a ≡ false) × (b ≡ false)
+pub neither : (a b : Bool) → (a || b) ≡ false → (a ≡ false) × (b ≡ false)
 neither true b e = absurd cc
 neither false b e = (refl, e)
 
-pub not_required : (name : List ℕ) (done : List Requires) → is_required name done ≡ false → Contains (names done) name → ⊥
-not_required name [] e c = absurd (omega (arith, c.1))
-not_required name (r ∷ rs) e c =
-    let n = neither (is_text r.name name) (is_required name rs) e in
-    elim (Contains-append_cases (r.name ∷ []) (names rs) name c) [
-      | inl here ↦ let yes : is_text r.name name ≡ true = (bytes_decides r.name name).1 (single r.name name here) in absurd cc
-      | inr there ↦ not_required name rs n.1 there
+pub not_among : (name : List ℕ) (names : List (List ℕ)) → is_among name names ≡ false → Contains names name → ⊥
+not_among name [] e c = absurd (omega (arith, c.1))
+not_among name (n ∷ ns) e c =
+    let none = neither (is_text n name) (is_among name ns) e in
+    elim (Contains-append_cases (n ∷ []) ns name c) [
+      | inl here ↦ let it : is_text n name ≡ true = (bytes_decides n name).1 (single n name here) in absurd cc
+      | inr there ↦ not_among name ns none.1 there
     ]
 
 apart_by : (a b : Bool) → (a ≡ true → ⊥) → b ≡ false → (a || b) ≡ false
 apart_by true b n e = absurd (n refl)
 apart_by false b n e = e
 
-pub required_not : (name : List ℕ) (done : List Requires) → (Contains (names done) name → ⊥) → is_required name done ≡ false
-required_not name [] n = refl
-required_not name (r ∷ rs) n =
-    apart_by (is_text r.name name) (is_required name rs) (λ e. n (contains_first name r.name (names rs) ((bytes_decides r.name name).0 e)))
-    (required_not name rs (λ c. n (Contains-append_right (r.name ∷ []) (names rs) name c)))
+pub among_not : (name : List ℕ) (names : List (List ℕ)) → (Contains names name → ⊥) → is_among name names ≡ false
+among_not name [] none = refl
+among_not name (n ∷ ns) none =
+    apart_by (is_text n name) (is_among name ns) (λ e. none (contains_first name n ns ((bytes_decides n name).0 e)))
+    (among_not name ns (λ c. none (Contains-append_right (n ∷ []) ns name c)))
 
 text_symm : (a b : List ℕ) → is_text a b ≡ is_text b a
 text_symm a b = nat_list_eq_equiv.symm a b
 
--- a name is among the names where an entry is for it
-pub among_names : (name : List ℕ) (done : List Requires) → list_any (pointwise nat_eq name) (names done) ≡ is_required name done
-among_names name [] = refl
-among_names name (r ∷ rs) = rw (among_names name rs, text_symm name r.name) refl
+-- the same test, from the side of the name
+pub among_from : (name : List ℕ) (names : List (List ℕ)) → list_any (pointwise nat_eq name) names ≡ is_among name names
+among_from name [] = refl
+among_from name (n ∷ ns) = rw (among_from name ns, text_symm name n) refl
 
--- the names after one more entry
-pub names_with : (keys : List (List ℕ)) (name : List ℕ) (done : List Requires) (e : Requires) → keys ≡ names done → name ≡ e.name → is_required e.name done ≡ false
-    → insert_key (pointwise nat_eq) keys name ≡ names (done ++ e ∷ [])
-names_with keys name done e same is fresh =
-    let none : list_any (pointwise nat_eq name) keys ≡ false = rw (same, is) (among_names e.name done ∙ fresh) in
-    rw (none, same, is) (sym (map_push (λ (r : Requires). r.name) done e))
+-- a name that is none of them comes behind them
+pub inserted : (names : List (List ℕ)) (name : List ℕ) → is_among name names ≡ false → insert_key (pointwise nat_eq) names name ≡ names ++ name ∷ []
+inserted names name fresh =
+    let none : list_any (pointwise nat_eq name) names ≡ false = among_from name names ∙ fresh in
+    rw none refl
+
+one_more : (a b c : Bool) → (a || (b || c)) ≡ ((a || b) || c)
+one_more true b c = refl
+one_more false b c = refl
+
+pub among_push : (name x : List ℕ) (names : List (List ℕ)) → is_among name (names ++ x ∷ []) ≡ (is_among name names || is_text x name)
+among_push name x [] = or_false (is_text x name)
+  where
+    or_false : (b : Bool) → (b || false) ≡ b
+    or_false true = refl
+    or_false false = refl
+among_push name x (n ∷ ns) = ap (λ b. is_text n name || b) (among_push name x ns) ∙ one_more (is_text n name) (is_among name ns) (is_text x name)
+
+or_again : (a b : Bool) → (b ≡ true → a ≡ true) → (a || b) ≡ a
+or_again true b h = refl
+or_again false true h = sym (h refl)
+or_again false false h = refl
+
+-- what stands in a set where one more name is put in
+pub among_inserted : (name x : List ℕ) (names : List (List ℕ)) → list_any (pointwise nat_eq name) (insert_key (pointwise nat_eq) names x) ≡ (list_any (pointwise nat_eq name) names || is_text x name)
+among_inserted name x names = by_there (list_any (pointwise nat_eq x) names) refl
+  where
+    again : list_any (pointwise nat_eq x) names ≡ true → is_text x name ≡ true → list_any (pointwise nat_eq name) names ≡ true
+    again there e = subst (λ n. list_any (pointwise nat_eq n) names ≡ true) ((bytes_decides x name).0 e) there
+    by_there : (there : Bool) → list_any (pointwise nat_eq x) names ≡ there
+        → list_any (pointwise nat_eq name) (insert_key (pointwise nat_eq) names x) ≡ (list_any (pointwise nat_eq name) names || is_text x name)
+    by_there true e = rw e (sym (or_again (list_any (pointwise nat_eq name) names) (is_text x name) (again e)))
+    by_there false e = rw e (among_from name (names ++ x ∷ []) ∙ among_push name x names ∙ ap (λ b. b || is_text x name) (sym (among_from name names)))
+
+-- one more name is put in
+pub among_moved : (name x : List ℕ) (keys rest : List (List ℕ)) → (list_any (pointwise nat_eq name) (insert_key (pointwise nat_eq) keys x) || is_among name rest) ≡ (list_any (pointwise nat_eq name) keys || is_among name (x ∷ rest))
+among_moved name x keys rest = ap (λ b. b || is_among name rest) (among_inserted name x keys) ∙ sym (one_more (list_any (pointwise nat_eq name) keys) (is_text x name) (is_among name rest))
+
+-- a name stands among the names of a table where it stands among its entries
+pub required_among : (name : List ℕ) (required : List Requires) → list_any (λ (r : Requires). is_text r.name name) required ≡ is_among name (map (λ (r : Requires). r.name) required)
+required_among name [] = refl
+required_among name (r ∷ rs) = rw (required_among name rs) refl

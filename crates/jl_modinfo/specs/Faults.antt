@@ -18,7 +18,6 @@ told (faults.Repeated table name) = Some (faults.Repeated table name)
 told faults.BaseRule = Some faults.BaseRule
 told (faults.PackageMissing name) = Some (faults.PackageMissing name)
 told faults.Trailing = Some faults.Trailing
-told (faults.NotBuilt at) = Some (faults.NotBuilt at)
 told faults.NoMemory = None
 
 abbrev pub short : ℕ → InfoFault

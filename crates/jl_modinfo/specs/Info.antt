@@ -1,54 +1,169 @@
--- The spelling of a declaration file: a relation between its bytes and a declaration (JVMS 4.1, 4.7.25).
-use Rattle.std.specs.Prelude.{◌≡◌, ℕ, ◌<◌, List, [], ◌∷◌, ◌++◌, length, map, Option, None, Some, IsTrue, codes, ◌⊎◌}
-use Rattle.std.specs.List.{flat_map}
+-- The spelling of a declaration file: a relation between its bytes and a declaration (JVMS 4.1, 4.7.25 to 4.7.27).
+use Rattle.std.specs.Prelude.{◌≡◌, ℕ, ◌<◌, List, [], ◌∷◌, ◌++◌, length, map, filter, Option, None, Some, IsTrue, Bool, true, false, codes, ◌⊎◌, ⊤}
+use Rattle.std.specs.List.{flat_map, AllByRecursion}
+use Rattle.jl_logic.specs.Order.{is_text}
 use Rattle.jl_logic.specs.Lists.{AreDistinct}
 use Rattle.jl_reading.specs.Reading.{Stands, two, four}
 use Rattle.jl_prim.specs.declared.declaration.Requires.{Requires}
+use Rattle.jl_prim.specs.declared.declaration.Grant.{Grant}
+use Rattle.jl_prim.specs.declared.declaration.Provides.{Provides}
 use Rattle.jl_prim.specs.declared.declaration.Declaration.{Declaration}
 use Rattle.jl_pool.specs.declared.entry.Entry.{Entry}
 use Rattle.jl_pool.specs.Pool.{text_of}
 use Rattle.jl_pool.specs.Spelling.{StandsPool}
-use Rattle.jl_modinfo.specs.Meaning.{module_named, version_named, class_named, is_set, keeps_base_rule}
+use Rattle.jl_modinfo.specs.Meaning.{module_named, package_named, class_named, class_text, version_named, is_set, targets_of}
+use Rattle.jl_modinfo.specs.Rules.{keeps_base_rule, missing_package}
 
--- an entry of the requires table, by numbers
-pub record Row : Type 0 where
+-- ---- the parts of a file, by numbers
+
+-- an entry of the requires table
+pub record RequiresRow : Type 0 where
   pub index : ℕ
   pub flags : ℕ
   pub version : ℕ
 
--- a Module attribute, by numbers
+-- an entry of the exports or opens table
+pub record GrantRow : Type 0 where
+  pub index : ℕ
+  pub flags : ℕ
+  pub targets : List ℕ
+
+-- an entry of the provides table
+pub record ProvidesRow : Type 0 where
+  pub index : ℕ
+  pub classes : List ℕ
+
+-- a Module attribute
 pub record Body : Type 0 where
   pub index : ℕ
   pub flags : ℕ
   pub version : ℕ
-  pub rows : List Row
+  pub required : List RequiresRow
+  pub exports : List GrantRow
+  pub opens : List GrantRow
+  pub uses : List ℕ
+  pub provides : List ProvidesRow
 
-abbrev pub row_bytes : Row → List ℕ
-row_bytes r = two r.index ++ (two r.flags ++ two r.version)
+-- any attribute: the index of its name, and its content
+pub record Attribute : Type 0 where
+  pub index : ℕ
+  pub content : List ℕ
 
--- The content of a Module attribute. The counts of exports, opens, uses and provides are 0 until they are read.
+-- ---- their bytes
+
+-- a count, and so many entries
+abbrev pub counted : {A : Type 0} → (A → List ℕ) → List A → List ℕ
+counted row_bytes rows = two (length rows) ++ flat_map row_bytes rows
+
+abbrev pub requires_bytes : RequiresRow → List ℕ
+requires_bytes r = two r.index ++ (two r.flags ++ two r.version)
+
+abbrev pub grant_bytes : GrantRow → List ℕ
+grant_bytes g = two g.index ++ (two g.flags ++ counted two g.targets)
+
+abbrev pub provides_bytes : ProvidesRow → List ℕ
+provides_bytes p = two p.index ++ counted two p.classes
+
+-- the content of a Module attribute
 abbrev pub body_bytes : Body → List ℕ
-body_bytes b = two b.index ++ (two b.flags ++ (two b.version ++ (two (length b.rows) ++ (flat_map row_bytes b.rows ++ (two 0 ++ (two 0 ++ (two 0 ++ two 0)))))))
+body_bytes b =
+    two b.index ++ (two b.flags ++ (two b.version ++ (counted requires_bytes b.required ++ (counted grant_bytes b.exports
+    ++ (counted grant_bytes b.opens ++ (counted two b.uses ++ counted provides_bytes b.provides))))))
 
--- from the flags of the file to its end: an empty class with one attribute
-abbrev pub back_bytes : ℕ → ℕ → Body → List ℕ
-back_bytes this attribute b =
-    two 0x8000 ++ (two this ++ (two 0 ++ (two 0 ++ (two 0 ++ (two 0 ++ (two 1 ++ (two attribute ++ (four (length (body_bytes b)) ++ body_bytes b))))))))
+abbrev pub attribute_bytes : Attribute → List ℕ
+attribute_bytes a = two a.index ++ (four (length a.content) ++ a.content)
 
--- the row declares this entry
-pub record Declares (pool : List Entry) (r : Row) (e : Requires) : Type 0 where
-  pub fits : (r.index < 65536) × (r.flags < 65536) × (r.version < 65536)
-  pub named : module_named pool r.index ≡ Some e.name
+-- from the flags of the file to its end: an empty class with its attributes
+abbrev pub back_bytes : ℕ → List Attribute → List ℕ
+back_bytes this attributes =
+    two 0x8000 ++ (two this ++ (two 0 ++ (two 0 ++ (two 0 ++ (two 0 ++ counted attribute_bytes attributes)))))
+
+-- ---- what they declare
+
+-- one of these for each of those, in order
+abbrev pub Match : {A B : Type 0} → (A → B → Type 0) → List A → List B → Type 0
+Match R [] [] = ⊤
+Match R (a ∷ xs) (b ∷ ys) = R a b × Match R xs ys
+Match R [] (b ∷ ys) = ⊥
+Match R (a ∷ xs) [] = ⊥
+
+-- an index of two bytes has this name
+abbrev pub Names : (List Entry → ℕ → Option (List ℕ)) → List Entry → ℕ → List ℕ → Type 0
+Names named pool i name = (i < 65536) × (named pool i ≡ Some name)
+
+-- indices have these names, each once
+pub record NameAll (named : List Entry → ℕ → Option (List ℕ)) (pool : List Entry) (is : List ℕ) (names : List (List ℕ)) : Type 0 where
+  pub few : length is < 65536
+  pub each : Match (Names named pool) is names
+  pub distinct : AreDistinct names
+
+pub record IsRequires (pool : List Entry) (r : RequiresRow) (e : Requires) : Type 0 where
+  pub fits : (r.flags < 65536) × (r.version < 65536)
+  pub named : Names module_named pool r.index e.name
   pub version : (v : Option (List ℕ)) × (version_named pool r.version ≡ Some v)
   pub transitive : e.transitive ≡ is_set r.flags 0x20
   pub is_static : e.is_static ≡ is_set r.flags 0x40
 
--- the rows declare these entries, in order
-abbrev pub DeclareAll : List Entry → List Row → List Requires → Type 0
-DeclareAll pool [] [] = Unit {0}
-DeclareAll pool (r ∷ rs) (e ∷ es) = Declares pool r e × DeclareAll pool rs es
-DeclareAll pool [] (e ∷ es) = ⊥
-DeclareAll pool (r ∷ rs) [] = ⊥
+pub record IsGrant (pool : List Entry) (r : GrantRow) (e : Grant) : Type 0 where
+  pub fits : r.flags < 65536
+  pub named : Names package_named pool r.index e.«package»
+  pub targets : List (List ℕ)
+  pub to : e.to ≡ targets_of targets
+  pub all : NameAll module_named pool r.targets targets
+
+pub record IsProvides (pool : List Entry) (r : ProvidesRow) (e : Provides) : Type 0 where
+  pub named : Names class_named pool r.index e.service
+  pub all : NameAll class_named pool r.classes e.implementations
+  pub some : r.classes ≡ [] → ⊥
+
+-- A table declares these entries, no two of which have one key.
+pub record IsTable {A B : Type 0} (R : A → B → Type 0) (key : B → List ℕ) (rows : List A) (entries : List B) : Type 0 where
+  pub few : length rows < 65536
+  pub each : Match R rows entries
+  pub distinct : AreDistinct (map key entries)
+
+-- a Module attribute declares these parts
+pub record IsBody (pool : List Entry) (b : Body) (d : Declaration) : Type 0 where
+  pub fits : (b.flags < 65536) × (b.version < 65536)
+  pub name : Names module_named pool b.index d.name
+  pub is_open : d.is_open ≡ is_set b.flags 0x20
+  pub version : version_named pool b.version ≡ Some d.version
+  pub required : IsTable (IsRequires pool) (λ (e : Requires). e.name) b.required d.required
+  pub exports : IsTable (IsGrant pool) (λ (e : Grant). e.«package») b.exports d.exports
+  pub opens : IsTable (IsGrant pool) (λ (e : Grant). e.«package») b.opens d.opens
+  pub closed : d.is_open ≡ true → d.opens ≡ []
+  pub uses : NameAll class_named pool b.uses d.uses
+  pub provides : IsTable (IsProvides pool) (λ (e : Provides). e.service) b.provides d.provides
+
+-- ---- attributes
+
+-- the name of an attribute is this
+abbrev pub is_named : List Entry → List ℕ → Attribute → Bool
+is_named pool name a = is_some_text name (text_of pool a.index) where
+  is_some_text : List ℕ → Option (List ℕ) → Bool
+  is_some_text name None = false
+  is_some_text name (Some text) = is_text text name
+
+-- the contents of the attributes of a name
+abbrev pub contents : List Entry → List ℕ → List Attribute → List (List ℕ)
+contents pool name attributes = map (λ (a : Attribute). a.content) (filter (is_named pool name) attributes)
+
+-- an attribute has a name, and its numbers fit their bytes
+abbrev pub AttributeFits : List Entry → Attribute → Type 0
+AttributeFits pool a = (a.index < 65536) × (length a.content < 4294967296) × ((name : List ℕ) × (text_of pool a.index ≡ Some name))
+
+-- The packages are listed by at most one attribute, and else those that were found.
+abbrev pub ArePackages : List Entry → List Attribute → List (List ℕ) → List (List ℕ) → Type 0
+ArePackages pool attributes found packages =
+    ((contents pool (codes "ModulePackages") attributes ≡ []) × (packages ≡ found))
+    ⊎ ((is : List ℕ) × (contents pool (codes "ModulePackages") attributes ≡ counted two is ∷ []) × NameAll package_named pool is packages)
+
+-- The main class is named by at most one attribute.
+abbrev pub IsMain : List Entry → List Attribute → Option (List ℕ) → Type 0
+IsMain pool attributes None = contents pool (codes "ModuleMainClass") attributes ≡ []
+IsMain pool attributes (Some class) = (i : ℕ) × (contents pool (codes "ModuleMainClass") attributes ≡ two i ∷ []) × Names class_named pool i class
+
+-- ---- the whole file
 
 -- The bytes are a declaration file that declares d, where found is the packages to take.
 pub record IsInfo (bytes : List ℕ) (found : List (List ℕ)) (d : Declaration) : Type 0 where
@@ -57,20 +172,18 @@ pub record IsInfo (bytes : List ℕ) (found : List (List ℕ)) (d : Declaration)
   pub pool : List Entry
   pub pool_end : ℕ
   pub this : ℕ
-  pub attribute : ℕ
+  pub attributes : List Attribute
   pub body : Body
-  pub numbers : (minor < 65536) × (this < 65536) × (attribute < 65536) × (body.index < 65536) × (body.flags < 65536) × (body.version < 65536) × (length body.rows < 65536)
-  pub content_fits : length (body_bytes body) < 4294967296
+  pub numbers : (minor < 65536) × (this < 65536) × (length attributes < 65536)
   pub front : Stands bytes 0 (four 0xCAFEBABE ++ (two minor ++ two major)) 8
   pub version : (major ≡ 53) ⊎ (major ≡ 54)
   pub pool_stands : StandsPool bytes 8 pool pool_end
-  pub back : Stands bytes pool_end (back_bytes this attribute body) (length bytes)
-  pub this_named : class_named pool this ≡ Some (codes "module-info")
-  pub attribute_named : text_of pool attribute ≡ Some (codes "Module")
-  pub name : module_named pool body.index ≡ Some d.name
-  pub is_open : d.is_open ≡ is_set body.flags 0x20
-  pub version_declared : version_named pool body.version ≡ Some d.version
-  pub required : DeclareAll pool body.rows d.required
-  pub distinct : AreDistinct (map (λ e. e.name) d.required)
+  pub back : Stands bytes pool_end (back_bytes this attributes) (length bytes)
+  pub this_named : class_text pool this ≡ Some (codes "module-info")
+  pub fit : AllByRecursion (AttributeFits pool) attributes
+  pub module_there : contents pool (codes "Module") attributes ≡ body_bytes body ∷ []
+  pub declares : IsBody pool body d
+  pub packages : ArePackages pool attributes found d.packages
+  pub main : IsMain pool attributes d.main
   pub base : IsTrue (keeps_base_rule d.name d.required)
-  pub others : (d.exports ≡ []) × (d.opens ≡ []) × (d.uses ≡ []) × (d.provides ≡ []) × (d.packages ≡ found) × (d.main ≡ None)
+  pub none_missing : missing_package d ≡ None

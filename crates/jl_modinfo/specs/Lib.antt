@@ -1,4 +1,6 @@
 pub mod Faults
 pub mod Meaning
+pub mod Rules
 pub mod Reading
+pub mod Kinds
 pub mod Info

@@ -1,16 +1,20 @@
--- Reading a declaration file from left to right, with the first fault that is met (JVMS 4.1, 4.7.25).
-use Rattle.std.specs.Prelude.{ℕ, ◌+◌, List, [], ◌∷◌, length, take, Option, None, Result, Ok, Err, Bool, true, false, not, ◌||◌, nat_lt, ◌==◌, codes, if◌then◌else◌}
+-- Reading a declaration file from left to right, with the first fault that is met (JVMS 4.1, 4.7.25 to 4.7.27).
+use Rattle.std.specs.Prelude.{ℕ, zero, suc, ◌+◌, List, [], ◌∷◌, length, take, map, Option, None, Some, Result, Ok, Err, Bool, true, false, not, ◌||◌, nat_lt, ◌==◌, codes, is_some, if◌then◌else◌}
+use Rattle.jl_logic.specs.Order.{is_text}
 use Rattle.jl_reading.specs.Reading.{◌>>=◌, number_at, each_at}
 use Rattle.jl_prim.specs.declared.declaration.Requires.{Requires}
+use Rattle.jl_prim.specs.declared.declaration.Grant.{Grant}
+use Rattle.jl_prim.specs.declared.declaration.Provides.{Provides}
 use Rattle.jl_prim.specs.declared.declaration.Declaration.{Declaration}
 use Rattle.jl_pool.specs.declared.entry.Entry.{Entry}
 use Rattle.jl_pool.specs.Pool.{text_of}
 use Rattle.jl_pool.specs.Reading.{pool_at}
 use Rattle.jl_modinfo.specs.declared.module.Module.{Module}
+use Rattle.jl_modinfo.specs.declared.attribute.Attributes.{Attributes}
 use Rattle.jl_modinfo.specs.declared.fault.InfoFault.{InfoFault}
 use Rattle.jl_modinfo.specs.declared.fault.InfoFault.TheVariants as faults
-use Rattle.jl_logic.specs.Order.{is_text}
-use Rattle.jl_modinfo.specs.Meaning.{module_named, version_named, class_named, is_set, keeps_base_rule, is_module_info, is_required}
+use Rattle.jl_modinfo.specs.Meaning.{module_named, package_named, class_named, class_text, version_named, is_set, is_module_info, is_among, targets_of}
+use Rattle.jl_modinfo.specs.Rules.{keeps_base_rule, missing_package}
 use Rattle.jl_modinfo.specs.Faults.{short, pool_or, named_or}
 
 -- ---- up to the attributes
@@ -36,7 +40,7 @@ this_at pool bytes at = do
   flags ← number_at short 2 bytes at
   if not (flags.0 == 0x8000) then Err (faults.NotModule (codes "flags")) else (do
     this ← number_at short 2 bytes flags.1
-    if is_module_info (class_named pool this.0) then Ok this.1 else Err (faults.NotModule (codes "this")))
+    if is_module_info (class_text pool this.0) then Ok this.1 else Err (faults.NotModule (codes "this")))
 
 -- from the flags up to the count of the attributes
 unfoldable pub empty_class_at : List Entry → List ℕ → ℕ → Result ℕ InfoFault
@@ -47,14 +51,26 @@ empty_class_at pool bytes at = do
   fields ← zero_at (codes "fields") bytes interfaces
   zero_at (codes "methods") bytes fields
 
--- ---- the Module attribute
+-- ---- names
 
--- the index of a module, as its name
-unfoldable pub module_name_at : List Entry → List ℕ → ℕ → Result (List ℕ × ℕ) InfoFault
-module_name_at pool bytes at = do
+-- an index, as the name that it has
+unfoldable pub name_at : (List Entry → ℕ → Option (List ℕ)) → List Entry → List ℕ → ℕ → Result (List ℕ × ℕ) InfoFault
+name_at named pool bytes at = do
   i ← number_at short 2 bytes at
-  name ← named_or at (module_named pool i.0)
+  name ← named_or at (named pool i.0)
   Ok (name, i.1)
+
+-- likewise, where a name that the table has already is repeated
+unfoldable pub new_name_at : List ℕ → (List Entry → ℕ → Option (List ℕ)) → List Entry → List ℕ → List (List ℕ) → ℕ → Result (List ℕ × ℕ) InfoFault
+new_name_at table named pool bytes done at = do
+  name ← name_at named pool bytes at
+  if is_among name.0 done then Err (faults.Repeated table name.0) else Ok name
+
+-- a count, and so many names, each once
+unfoldable pub names_at : List ℕ → (List Entry → ℕ → Option (List ℕ)) → List Entry → List ℕ → ℕ → Result (List (List ℕ) × ℕ) InfoFault
+names_at table named pool bytes at = do
+  count ← number_at short 2 bytes at
+  each_at (new_name_at table named pool bytes) [] count.0 count.1
 
 -- the index of a version, as the version
 unfoldable pub version_at : List Entry → List ℕ → ℕ → Result (Option (List ℕ) × ℕ) InfoFault
@@ -63,39 +79,90 @@ version_at pool bytes at = do
   version ← named_or at (version_named pool i.0)
   Ok (version, i.1)
 
--- An entry of the requires table. A module that an earlier entry has is repeated.
+-- ---- the tables of a Module attribute
+
+-- an entry of the requires table
 unfoldable pub requires_at : List Entry → List ℕ → List Requires → ℕ → Result (Requires × ℕ) InfoFault
 requires_at pool bytes done at = do
-  name ← module_name_at pool bytes at
-  if is_required name.0 done then Err (faults.Repeated (codes "requires") name.0) else (do
-    flags ← number_at short 2 bytes name.1
-    version ← version_at pool bytes flags.1
-    Ok (record { name = name.0; transitive = is_set flags.0 0x20; is_static = is_set flags.0 0x40 }, version.1))
+  name ← new_name_at (codes "requires") module_named pool bytes (map (λ (r : Requires). r.name) done) at
+  flags ← number_at short 2 bytes name.1
+  version ← version_at pool bytes flags.1
+  Ok (record { name = name.0; transitive = is_set flags.0 0x20; is_static = is_set flags.0 0x40 }, version.1)
 
--- the requires table whose count stands at a place
 unfoldable pub requires_table_at : List Entry → List ℕ → ℕ → Result (List Requires × ℕ) InfoFault
 requires_table_at pool bytes at = do
   count ← number_at short 2 bytes at
   each_at (requires_at pool bytes) [] count.0 count.1
 
--- the count of a table that is not read yet
-unfoldable pub unbuilt_at : List ℕ → ℕ → Result ℕ InfoFault
-unbuilt_at bytes at = do
-  n ← number_at short 2 bytes at
-  if n.0 == 0 then Ok n.1 else Err (faults.NotBuilt at)
+-- an entry of a table of exports or opens
+unfoldable pub grant_at : List ℕ → (List Entry → ℕ → Option (List ℕ)) → List Entry → List ℕ → List Grant → ℕ → Result (Grant × ℕ) InfoFault
+grant_at table named pool bytes done at = do
+  name ← new_name_at table named pool bytes (map (λ (g : Grant). g.«package») done) at
+  flags ← number_at short 2 bytes name.1
+  targets ← names_at (codes "targets") module_named pool bytes flags.1
+  Ok (record { «package» = name.0; to = targets_of targets.0 }, targets.1)
 
--- the content of a Module attribute, all of the bytes from a place on
+unfoldable pub grants_at : List ℕ → (List Entry → ℕ → Option (List ℕ)) → List Entry → List ℕ → ℕ → Result (List Grant × ℕ) InfoFault
+grants_at table named pool bytes at = do
+  count ← number_at short 2 bytes at
+  each_at (grant_at table named pool bytes) [] count.0 count.1
+
+-- no package may be opened by a module that is open
+abbrev pub opened_named : Bool → List Entry → ℕ → Option (List ℕ)
+opened_named is_open pool i = if is_open then None else package_named pool i
+
+-- the classes that implement a service, of which there is one at least
+unfoldable pub implementations_at : List Entry → List ℕ → ℕ → Result (List (List ℕ) × ℕ) InfoFault
+implementations_at pool bytes at = do
+  count ← number_at short 2 bytes at
+  if count.0 == 0 then Err (faults.BadIndex at) else each_at (new_name_at (codes "implementations") class_named pool bytes) [] count.0 count.1
+
+-- an entry of the provides table
+unfoldable pub provides_at : List Entry → List ℕ → List Provides → ℕ → Result (Provides × ℕ) InfoFault
+provides_at pool bytes done at = do
+  service ← new_name_at (codes "provides") class_named pool bytes (map (λ (p : Provides). p.service) done) at
+  classes ← implementations_at pool bytes service.1
+  Ok (record { service = service.0; implementations = classes.0 }, classes.1)
+
+unfoldable pub provides_table_at : List Entry → List ℕ → ℕ → Result (List Provides × ℕ) InfoFault
+provides_table_at pool bytes at = do
+  count ← number_at short 2 bytes at
+  each_at (provides_at pool bytes) [] count.0 count.1
+
+-- ---- the contents of attributes, each all of the bytes from a place on
+
+abbrev pub ended : {A : Type 0} → List ℕ → A × ℕ → Result A InfoFault
+ended bytes x = if x.1 == length bytes then Ok x.0 else Err faults.Trailing
+
+-- a Module attribute
 unfoldable pub module_at : List Entry → List ℕ → ℕ → Result Module InfoFault
 module_at pool bytes at = do
-  name ← module_name_at pool bytes at
+  name ← name_at module_named pool bytes at
   flags ← number_at short 2 bytes name.1
   version ← version_at pool bytes flags.1
   required ← requires_table_at pool bytes version.1
-  exports ← unbuilt_at bytes required.1
-  opens ← unbuilt_at bytes exports
-  uses ← unbuilt_at bytes opens
-  provides ← unbuilt_at bytes uses
-  if provides == length bytes then Ok (record { name = name.0; is_open = is_set flags.0 0x20; version = version.0; required = required.0 }) else Err faults.Trailing
+  exports ← grants_at (codes "exports") package_named pool bytes required.1
+  opens ← grants_at (codes "opens") (opened_named (is_set flags.0 0x20)) pool bytes exports.1
+  uses ← names_at (codes "uses") class_named pool bytes opens.1
+  provides ← provides_table_at pool bytes uses.1
+  ended bytes (record {
+    name = name.0;
+    is_open = is_set flags.0 0x20;
+    version = version.0;
+    required = required.0;
+    exports = exports.0;
+    opens = opens.0;
+    uses = uses.0;
+    provides = provides.0;
+  }, provides.1)
+
+-- a ModulePackages attribute
+unfoldable pub packages_at : List Entry → List ℕ → ℕ → Result (List (List ℕ)) InfoFault
+packages_at pool bytes at = names_at (codes "packages") package_named pool bytes at >>= ended bytes
+
+-- a ModuleMainClass attribute
+unfoldable pub main_at : List Entry → List ℕ → ℕ → Result (List ℕ) InfoFault
+main_at pool bytes at = name_at class_named pool bytes at >>= ended bytes
 
 -- ---- attributes
 
@@ -105,54 +172,99 @@ content_end bytes at = do
   len ← number_at short 4 bytes at
   if nat_lt (length bytes) (len.1 + len.0) then Err (faults.Short len.1) else Ok (len.1, len.1 + len.0)
 
-abbrev pub begins : List Module → Bool
-begins [] = true
-begins (m ∷ ms) = false
+-- the content of an attribute, behind its name
+unfoldable pub content_at : {A : Type 0} → (List ℕ → ℕ → Result A InfoFault) → List ℕ → ℕ → Result (A × ℕ) InfoFault
+content_at one bytes at = do
+  content ← content_end bytes at
+  x ← one (take content.1 bytes) content.0
+  Ok (x, content.1)
 
--- A Module attribute behind its name. A second one is repeated.
-unfoldable pub module_attribute_at : List Entry → List ℕ → List Module → ℕ → Result (Module × ℕ) InfoFault
-module_attribute_at pool bytes done at =
-    if not (begins done) then Err (faults.Repeated (codes "attributes") (codes "Module")) else (do
-      content ← content_end bytes at
-      m ← module_at pool (take content.1 bytes) content.0
-      Ok (m, content.1))
+-- an attribute of a name that may stand once
+abbrev pub once : {A B : Type 0} → List ℕ → Option A → Result B InfoFault → Result B InfoFault
+once name None x = x
+once name (Some a) x = Err (faults.Repeated (codes "attributes") name)
 
--- An attribute. None but Module is read yet.
-unfoldable pub attribute_at : List Entry → List ℕ → List Module → ℕ → Result (Module × ℕ) InfoFault
+abbrev pub unread : Attributes
+unread = record { «module» = None; packages = None; main = None }
+
+unfoldable pub with_module : List Entry → List ℕ → Attributes → ℕ → Result (Attributes × ℕ) InfoFault
+with_module pool bytes done at = do
+  m ← content_at (module_at pool) bytes at
+  Ok (record done { «module» = Some m.0 }, m.1)
+
+unfoldable pub with_packages : List Entry → List ℕ → Attributes → ℕ → Result (Attributes × ℕ) InfoFault
+with_packages pool bytes done at = do
+  ps ← content_at (packages_at pool) bytes at
+  Ok (record done { packages = Some ps.0 }, ps.1)
+
+unfoldable pub with_main : List Entry → List ℕ → Attributes → ℕ → Result (Attributes × ℕ) InfoFault
+with_main pool bytes done at = do
+  c ← content_at (main_at pool) bytes at
+  Ok (record done { main = Some c.0 }, c.1)
+
+-- an attribute of another name is passed over by its length
+unfoldable pub passed_over : List ℕ → Attributes → ℕ → Result (Attributes × ℕ) InfoFault
+passed_over bytes done at = do
+  content ← content_end bytes at
+  Ok (done, content.1)
+
+-- an attribute, behind those that were read so far
+unfoldable pub attribute_at : List Entry → List ℕ → Attributes → ℕ → Result (Attributes × ℕ) InfoFault
 attribute_at pool bytes done at = do
   i ← number_at short 2 bytes at
   name ← named_or at (text_of pool i.0)
-  if is_text name (codes "Module") then module_attribute_at pool bytes done i.1 else Err (faults.NotBuilt at)
+  if is_text name (codes "Module") then once name done.«module» (with_module pool bytes done i.1)
+    else if is_text name (codes "ModulePackages") then once name done.packages (with_packages pool bytes done i.1)
+    else if is_text name (codes "ModuleMainClass") then once name done.main (with_main pool bytes done i.1)
+    else passed_over bytes done i.1
+
+unfoldable pub attributes_from : ℕ → List Entry → List ℕ → Attributes → ℕ → Result (Attributes × ℕ) InfoFault
+attributes_from zero pool bytes done at = Ok (done, at)
+attributes_from (suc n) pool bytes done at = do
+  next ← attribute_at pool bytes done at
+  attributes_from n pool bytes next.0 next.1
 
 -- the attributes whose count stands at a place
-unfoldable pub attributes_at : List Entry → List ℕ → ℕ → Result (List Module × ℕ) InfoFault
+unfoldable pub attributes_at : List Entry → List ℕ → ℕ → Result (Attributes × ℕ) InfoFault
 attributes_at pool bytes at = do
   count ← number_at short 2 bytes at
-  each_at (attribute_at pool bytes) [] count.0 count.1
+  attributes_from count.0 pool bytes unread count.1
 
 -- ---- the whole file
 
-abbrev pub declaration_of : Module → List (List ℕ) → Declaration
-declaration_of m found = record {
+abbrev pub or_found : List (List ℕ) → Option (List (List ℕ)) → List (List ℕ)
+or_found found None = found
+or_found found (Some packages) = packages
+
+abbrev pub declaration_of : Module → List (List ℕ) → Option (List ℕ) → Declaration
+declaration_of m packages main = record {
   name = m.name;
   is_open = m.is_open;
   version = m.version;
   required = m.required;
-  exports = [];
-  opens = [];
-  uses = [];
-  provides = [];
-  packages = found;
-  main = None;
+  exports = m.exports;
+  opens = m.opens;
+  uses = m.uses;
+  provides = m.provides;
+  packages = packages;
+  main = main;
 }
 
+-- a declaration that names a package which it has not
+abbrev pub all_there : Declaration → Option (List ℕ) → Result Declaration InfoFault
+all_there d None = Ok d
+all_there d (Some name) = Err (faults.PackageMissing name)
+
+-- the rules on a declaration, in order
+abbrev pub ruled : Declaration → Result Declaration InfoFault
+ruled d = if keeps_base_rule d.name d.required then all_there d (missing_package d) else Err faults.BaseRule
+
 -- the rules on the whole file, in order
-abbrev pub whole : List (List ℕ) → List ℕ → List Module × ℕ → Result Declaration InfoFault
-whole found bytes ([], at) = Err faults.NoModuleAttribute
-whole found bytes (m ∷ ms, at) =
-    if not (at == length bytes) then Err faults.Trailing
-    else if keeps_base_rule m.name m.required then Ok (declaration_of m found)
-    else Err faults.BaseRule
+abbrev pub whole : List (List ℕ) → List ℕ → Attributes → ℕ → Result Declaration InfoFault
+whole found bytes read at = by read.«module» where
+  by : Option Module → Result Declaration InfoFault
+  by None = Err faults.NoModuleAttribute
+  by (Some m) = if at == length bytes then ruled (declaration_of m (or_found found read.packages) read.main) else Err faults.Trailing
 
 -- the declaration in a file, or its first fault
 unfoldable pub info_of : List ℕ → List (List ℕ) → Result Declaration InfoFault
@@ -160,5 +272,5 @@ info_of bytes found = do
   front ← front_at bytes
   pool ← pool_or (pool_at bytes front)
   at ← empty_class_at pool.0 bytes pool.1
-  modules ← attributes_at pool.0 bytes at
-  whole found bytes modules
+  read ← attributes_at pool.0 bytes at
+  whole found bytes read.0 read.1
