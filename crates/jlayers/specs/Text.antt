@@ -33,7 +33,6 @@ info_text (infos.Repeated table name) = codes "Repeated" ++ field table ++ field
 info_text infos.BaseRule = codes "BaseRule"
 info_text (infos.PackageMissing name) = codes "PackageMissing" ++ field (dotted name)
 info_text infos.Trailing = codes "Trailing"
-info_text (infos.NotBuilt at) = codes "NotBuilt" ++ field (decimal at)
 info_text infos.NoMemory = codes "NoMemory"
 
 abbrev pub find_text : FindFault → List ℕ

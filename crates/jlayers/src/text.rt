@@ -82,7 +82,6 @@ fn info_text(alloc: Global, fault: &InfoFault) -> Result<String, AllocError>
             format!(in alloc; "PackageMissing {name}")
         }
         InfoFault::Trailing => String::from_str(alloc, "Trailing"),
-        InfoFault::NotBuilt(at) => format!(in alloc; "NotBuilt {at}"),
         InfoFault::NoMemory => String::from_str(alloc, "NoMemory"),
     }
 }
