@@ -11,3 +11,4 @@ pub mod DescriptorBad
 pub mod MethodBad
 pub mod TextBad
 pub mod Rows
+pub mod Utf16Laws

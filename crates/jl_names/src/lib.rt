@@ -8,6 +8,7 @@ mod reading;
 mod text;
 mod types;
 mod units;
+mod utf16;
 
 pub use dots::{dotted, slashed};
 pub use fault::{CopyEnd, TextFault};
@@ -16,6 +17,9 @@ pub use reading::descriptor;
 pub use text::{bytes_of, is_paired, plain_of, plain_text, units_of};
 pub use types::{BaseType, Descriptor, FieldType, Params};
 pub use units::Units;
+pub use utf16::utf16_of;
 
 #[cfg(test)]
 mod tests;
+#[cfg(test)]
+mod utf16_tests;
