@@ -2,3 +2,4 @@ pub mod TextLaws
 pub mod TextLoop
 pub mod TextClauses
 pub mod Swaps
+pub mod NameLaws

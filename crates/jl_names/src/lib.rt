@@ -3,11 +3,13 @@
 
 mod dots;
 mod fault;
+mod name;
 mod text;
 mod units;
 
 pub use dots::{dotted, slashed};
 pub use fault::{CopyEnd, TextFault};
+pub use name::{is_class_name, is_field_name, is_method_name, package_of};
 pub use text::{is_paired, plain_text, units_of};
 pub use units::Units;
 

@@ -16,15 +16,21 @@ use Rattle.jl_words.specs.declared.setting.Setting.{Setting}
 use Rattle.jl_words.specs.declared.setting.Setting.TheVariants as settings
 use Rattle.jl_words.specs.declared.setting.Verb.{Verb}
 use Rattle.jl_words.specs.declared.setting.Verb.TheVariants as verbs
-use Rattle.jl_words.specs.declared.reading.Given.{Given}
+use Rattle.jl_words.specs.declared.given.Given.{Given}
 use Rattle.jl_words.specs.Settings.{verb_text, setting_text, has_setting, is_flag}
 use Rattle.jl_words.specs.Values.{path_parts, listed, number_of, is_typed_package, is_typed_class}
 use Rattle.jl_words.specs.Line.{begins_with_dash, usual_steps}
 
 -- what an error tells: the fault, or nothing for want of memory
 abbrev pub told : WordFault → Option WordFault
+told faults.NoCommand = Some faults.NoCommand
+told (faults.UnknownWord at) = Some (faults.UnknownWord at)
+told (faults.Missing what) = Some (faults.Missing what)
+told (faults.Repeated what) = Some (faults.Repeated what)
+told (faults.BadNumber at) = Some (faults.BadNumber at)
+told (faults.BadTarget at) = Some (faults.BadTarget at)
+told faults.NotBuilt = Some faults.NotBuilt
 told faults.NoMemory = None
-told f = Some f
 
 -- ---- texts in parts
 

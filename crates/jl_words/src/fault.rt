@@ -1,6 +1,12 @@
 //! Why words are refused.
 
-use jl_prim::Name;
+ghost use Rattle.std.specs.Prelude.{◌≡◌, Err};
+ghost use Rattle.jl_logic.specs.Answers.{Gives};
+ghost use Rattle.jl_words.specs.declared.fault.WordFault.TheVariants.{Missing, Repeated, NoMemory};
+ghost use Rattle.jl_words.specs.Reading.{told};
+
+use jl_prim::{CopyEnd, Name, PushEnd};
+use std::alloc::{AllocError, Global};
 
 /// Why the words of a command line are refused: the first fault from the left, where what is missing comes
 /// after the last word. Words are numbered from 0.
@@ -22,4 +28,42 @@ pub enum WordFault {
     NotBuilt,
     /// There was no memory for the command.
     NoMemory,
+}
+
+impl From<AllocError> for WordFault {
+    ghost from_gives = { λ _ e. e ≡ NoMemory };
+
+    fn from(_e: AllocError) -> WordFault {
+        WordFault::NoMemory
+    }
+}
+
+impl From<CopyEnd> for WordFault {
+    ghost from_gives = { λ _ e. e ≡ NoMemory };
+
+    fn from(_e: CopyEnd) -> WordFault {
+        WordFault::NoMemory
+    }
+}
+
+impl From<PushEnd> for WordFault {
+    ghost from_gives = { λ _ e. e ≡ NoMemory };
+
+    fn from(_e: PushEnd) -> WordFault {
+        WordFault::NoMemory
+    }
+}
+
+/// The fault of an operand or a value that is not there.
+pub fn missing<T>(alloc: Global, what: &str) -> Result<T, WordFault>
+    ensures { Gives told (λ x. x) result (Err (Missing what.now)) }
+{
+    Err(WordFault::Missing(Name::from_text(alloc, what)?))
+}
+
+/// The fault of an option that stands twice.
+pub fn repeated<T>(alloc: Global, option: &str) -> Result<T, WordFault>
+    ensures { Gives told (λ x. x) result (Err (Repeated option.now)) }
+{
+    Err(WordFault::Repeated(Name::from_text(alloc, option)?))
 }

@@ -3,8 +3,13 @@
 
 mod command;
 mod fault;
+mod given;
+mod operands;
+mod options;
 mod reading;
 mod setting;
+mod targets;
+mod texts;
 
 pub use command::{Added, Command, RunWords};
 pub use fault::WordFault;
