@@ -1,0 +1,4 @@
+mod Cutting
+mod Placing
+mod Uses
+mod Most

@@ -46,9 +46,9 @@ pub record AreUses (verb : Verb) (uses : List Use) : Type 0 where
 -- one of these for each of those, in order
 abbrev pub Match : {A B : Type 0} → (A → B → Type 0) → List A → List B → Type 0
 Match R [] [] = ⊤
-Match R (a ∷ as) (b ∷ bs) = R a b × Match R as bs
-Match R [] (b ∷ bs) = ⊥
-Match R (a ∷ as) [] = ⊥
+Match R (x ∷ xs) (y ∷ ys) = R x y × Match R xs ys
+Match R [] (y ∷ ys) = ⊥
+Match R (x ∷ xs) [] = ⊥
 
 abbrev pub adds : Use → Bool
 adds u = is_setting settings.AddReads u.setting || (is_setting settings.AddExports u.setting || is_setting settings.AddOpens u.setting)

@@ -164,7 +164,7 @@ word_of (Some word) = word
 unfoldable pub options_from : ℕ → Verb → List (List ℕ) → Given → ℕ → Result (Given × ℕ) WordFault
 options_from zero verb words given at = Ok (given, at)
 options_from (suc n) verb words given at =
-    if is_option (slice_get words at) then use_of (named_by verb (word_of (slice_get words at))) words given at >>= λ next. options_from n verb words next.0 next.1
+    if is_option (slice_get words at) then (use_of (named_by verb (word_of (slice_get words at))) words given at >>= λ next. options_from n verb words next.0 next.1)
     else Ok (given, at)
 
 -- ---- operands

@@ -74,7 +74,7 @@ pub record IsReads (value m n : List ℕ) : Type 0 where
 pub record IsGranted (value m p n : List ℕ) : Type 0 where
   pub typed : List ℕ
   pub text : value ≡ m ++ 47 ∷ (typed ++ 61 ∷ n)
-  pub package : p ≡ slashed typed
+  pub internal : p ≡ slashed typed
   pub names : IsTrue (names_a_module m && (is_typed_package typed && names_a_module n))
 
 -- what the value of an option adds

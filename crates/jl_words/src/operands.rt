@@ -1,6 +1,6 @@
 //! Operands.
 
-ghost use Rattle.std.specs.Prelude.{◌≡◌, ◌≤◌, ◌<◌, length, map, IfOk, drop, slice_get, position, not};
+ghost use Rattle.std.specs.Prelude.{◌≡◌, ◌≤◌, ◌<◌, length, map, ◌+◌, IfOk, IfSome, drop, slice_get, position, not};
 ghost use Rattle.std.specs.Option.{option_copied};
 ghost use Rattle.std.specs.String.{string_bytes};
 ghost use Rattle.jl_logic.specs.Answers.{Gives};
@@ -31,7 +31,7 @@ pub fn resolve_at(
     if at >= words.len() {
         return missing(alloc, "ROOT");
     }
-    if let Some(before) = first_no_module(&words[at..]) {
+    if let Some(before) = first_no_module(words, at) {
         return Err(WordFault::BadTarget(at + before));
     }
     let roots = names_from(alloc, words, at)?;
@@ -42,9 +42,18 @@ pub fn resolve_at(
     })
 }
 
-/// How many words name a module before the first that does not.
-fn first_no_module(words: &[String]) -> Option<usize>
-    ensures { result ≡ position (λ n. not (names_a_module n)) (map string_bytes words.now) }
+/// How many words from a place on name a module before the first that does not.
+fn first_no_module(words: &[String], at: usize) -> Option<usize>
+    requires { at ≤ length words.now }
+    ensures exact { result ≡ position (λ n. not (names_a_module n)) (drop at (map string_bytes words.now)) }
+    ensures within { IfSome result (λ k. at + k < length words.now) }
+{
+    place_of_no_module(&words[at..])
+}
+
+fn place_of_no_module(words: &[String]) -> Option<usize>
+    ensures exact { result ≡ position (λ w. not (names_a_module (string_bytes w))) words.now }
+    ensures within { IfSome result (λ k. k < length words.now) }
 {
     words
         .iter()

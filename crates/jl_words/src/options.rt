@@ -99,7 +99,7 @@ fn fitting<'a>(
     setting: Option<Setting>,
     joined: Option<&'a str>,
 ) -> Option<(Setting, Option<&'a str>)>
-    ensures { option_map (λ x. (x.0, option_copied x.1)) result ≡ reading.fitting verb setting (option_copied joined) }
+    ensures { option_map (λ x. (x.0, option_copied x.1)) result ≡ reading.fitting verb setting (option_copied joined.entry) }
 {
     let setting = setting?;
     if verb.has(setting) && !(setting.is_flag() && joined.is_some()) {
@@ -119,7 +119,7 @@ fn valued(
     at: usize,
 ) -> Result<(Given, usize), WordFault>
     requires { at < length words.now }
-    ensures exact { Gives told (λ x. x) result (reading.valued setting (option_copied joined) (map string_bytes words.now) given at) }
+    ensures exact { Gives told (λ x. x) result (reading.valued setting (option_copied joined.entry) (map string_bytes words.now) given at) }
     ensures within { IfOk result (λ x. x.1 ≤ length words.now) }
 {
     if let Some(value) = joined {

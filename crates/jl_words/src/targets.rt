@@ -1,6 +1,6 @@
 //! Facts that options add, and the target of a run.
 
-ghost use Rattle.std.specs.Prelude.{◌≡◌, ◌&&◌, List, ℕ, option_map, IfOk, Some, None, if◌then◌else◌};
+ghost use Rattle.std.specs.Prelude.{◌≡◌, ◌&&◌, ◌==◌, List, ℕ, option_map, IfOk, Some, None, if◌then◌else◌};
 ghost use Rattle.std.specs.List.{list_any};
 ghost use Rattle.jl_names.specs.Names.{is_slash};
 ghost use Rattle.jl_prim.specs.Names.{names_a_module};
@@ -18,9 +18,10 @@ use jl_prim::{CopyEnd, Name, is_module_name};
 use std::alloc::Global;
 
 /// What is granted: a package, in internal form, of a module to another.
+#[derive(Drop)]
 struct Granted {
-    module: Name,
-    package: Name,
+    from: Name,
+    name: Name,
     to: Name,
 }
 
@@ -54,7 +55,7 @@ fn exports_of(alloc: Global, value: &str) -> Result<Option<Added>, CopyEnd>
     ensures { IfOk result (λ added. added ≡ reading.granted_of Exports value.now) }
 {
     match granted_of(alloc, value)? {
-        Some(it) => Ok(Some(Added::Exports(it.module, it.package, it.to))),
+        Some(it) => Ok(Some(Added::Exports(it.from, it.name, it.to))),
         None => Ok(None),
     }
 }
@@ -63,14 +64,14 @@ fn opens_of(alloc: Global, value: &str) -> Result<Option<Added>, CopyEnd>
     ensures { IfOk result (λ added. added ≡ reading.granted_of Opens value.now) }
 {
     match granted_of(alloc, value)? {
-        Some(it) => Ok(Some(Added::Opens(it.module, it.package, it.to))),
+        Some(it) => Ok(Some(Added::Opens(it.from, it.name, it.to))),
         None => Ok(None),
     }
 }
 
 /// The module, package and module of a value.
 fn granted_of(alloc: Global, value: &str) -> Result<Option<Granted>, CopyEnd>
-    ensures { IfOk result (λ granted. (made : List ℕ → List ℕ → List ℕ → Fact) → option_map (λ it. made it.module it.package it.to) granted ≡ reading.granted_of made value.now) }
+    ensures { IfOk result (λ granted. (made : List ℕ → List ℕ → List ℕ → Fact) → option_map (λ it. made it.from it.name it.to) granted ≡ reading.granted_of made value.now) }
 {
     let Some((module, rest)) = parted(value, '/') else {
         return Ok(None);
@@ -81,21 +82,17 @@ fn granted_of(alloc: Global, value: &str) -> Result<Option<Granted>, CopyEnd>
     if !is_module_name(module.as_bytes()) || !is_module_name(to.as_bytes()) {
         return Ok(None);
     }
-    let Some(package) = package_of(alloc, typed)? else {
+    let Some(name) = package_of(alloc, typed)? else {
         return Ok(None);
     };
-    let module = Name::from_text(alloc, module)?;
+    let from = Name::from_text(alloc, module)?;
     let to = Name::from_text(alloc, to)?;
-    Ok(Some(Granted {
-        module,
-        package,
-        to,
-    }))
+    Ok(Some(Granted { from, name, to }))
 }
 
 /// A package that is typed with dots, in internal form.
 fn package_of(alloc: Global, typed: &str) -> Result<Option<Name>, CopyEnd>
-    ensures { IfOk result (λ package. package ≡ (if is_typed_package typed.now then Some (dots.slashed typed.now) else None)) }
+    ensures { IfOk result (λ name. name ≡ (if is_typed_package typed.now then Some (dots.slashed typed.now) else None)) }
 {
     if has_slash(typed.as_bytes()) {
         return Ok(None);
@@ -139,27 +136,27 @@ pub fn target_of(alloc: Global, word: &str) -> Result<Option<(Name, Option<Name>
     }
 }
 
-fn module_alone(alloc: Global, module: &str) -> Result<Option<(Name, Option<Name>)>, CopyEnd>
-    ensures { IfOk result (λ target. target ≡ (if names_a_module module.now then Some (module.now, None) else None)) }
+fn module_alone(alloc: Global, name: &str) -> Result<Option<(Name, Option<Name>)>, CopyEnd>
+    ensures { IfOk result (λ target. target ≡ (if names_a_module name.now then Some (name.now, None) else None)) }
 {
-    if !is_module_name(module.as_bytes()) {
+    if !is_module_name(name.as_bytes()) {
         return Ok(None);
     }
-    Ok(Some((Name::from_text(alloc, module)?, None)))
+    Ok(Some((Name::from_text(alloc, name)?, None)))
 }
 
 fn module_with_class(
     alloc: Global,
-    module: &str,
+    name: &str,
     typed: &str,
 ) -> Result<Option<(Name, Option<Name>)>, CopyEnd>
-    ensures { IfOk result (λ target. target ≡ (if names_a_module module.now && is_typed_class typed.now then Some (module.now, Some (dots.slashed typed.now)) else None)) }
+    ensures { IfOk result (λ target. target ≡ (if names_a_module name.now && is_typed_class typed.now then Some (name.now, Some (dots.slashed typed.now)) else None)) }
 {
-    if !is_module_name(module.as_bytes()) {
+    if !is_module_name(name.as_bytes()) {
         return Ok(None);
     }
     match class_of(alloc, typed)? {
         None => Ok(None),
-        Some(class) => Ok(Some((Name::from_text(alloc, module)?, Some(class)))),
+        Some(class) => Ok(Some((Name::from_text(alloc, name)?, Some(class)))),
     }
 }
