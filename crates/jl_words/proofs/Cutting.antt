@@ -12,7 +12,7 @@ use Rattle.jl_words.specs.Values.{is_empty, is_digit, with_first, split, path_pa
 use Rattle.jl_words.specs.Reading.{parted, parted_last}
 
 -- none of the bytes is c
-abbrev Lacks : ℕ → List ℕ → Type 0
+abbrev pub Lacks : ℕ → List ℕ → Type 0
 Lacks c bs = (i : ℕ) → i < length bs → get_or bs i 0 ≢ c
 
 differs : (b c : ℕ) → b ≢ c → (b == c) ≡ false
@@ -27,12 +27,12 @@ equal c = grind arith
 
 -- ---- the first separator
 
-parted_none : (c : ℕ) (bs : List ℕ) → Lacks c bs → parted c bs ≡ None
+pub parted_none : (c : ℕ) (bs : List ℕ) → Lacks c bs → parted c bs ≡ None
 unfolding parted
 parted_none c [] lacks = refl
 parted_none c (b ∷ bs) lacks = rw (differs b c (lacks 0 (omega arith)), parted_none c bs (λ i l. lacks (suc i) (omega (arith, l)))) refl
 
-parted_some : (c : ℕ) (front back : List ℕ) → Lacks c front → parted c (front ++ c ∷ back) ≡ Some (front, back)
+pub parted_some : (c : ℕ) (front back : List ℕ) → Lacks c front → parted c (front ++ c ∷ back) ≡ Some (front, back)
 unfolding parted
 parted_some c [] back lacks = rw (equal c) refl
 parted_some c (b ∷ front) back lacks = rw (differs b c (lacks 0 (omega arith)), parted_some c front back (λ i l. lacks (suc i) (omega (arith, l)))) refl
@@ -53,7 +53,7 @@ unfolding parted_last
 last_none c [] lacks = refl
 last_none c (b ∷ bs) lacks = rw (last_none c bs (λ i l. lacks (suc i) (omega (arith, l))), differs b c (lacks 0 (omega arith))) refl
 
-last_some : (c : ℕ) (front back : List ℕ) → Lacks c back → parted_last c (front ++ c ∷ back) ≡ Some (front, back)
+pub last_some : (c : ℕ) (front back : List ℕ) → Lacks c back → parted_last c (front ++ c ∷ back) ≡ Some (front, back)
 unfolding parted_last
 last_some c [] back lacks = rw (last_none c back lacks, equal c) refl
 last_some c (b ∷ front) back lacks = rw (last_some c front back lacks) refl

@@ -2,3 +2,7 @@ mod Cutting
 mod Placing
 mod Uses
 mod Most
+mod ValueLaws
+mod UseLaws
+mod GivenLaws
+mod LineLaws

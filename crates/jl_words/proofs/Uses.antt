@@ -18,7 +18,7 @@ unfolding options_from
 options_stop zero verb words given at stop = refl
 options_stop (suc n) verb words given at stop = rw stop refl
 
-step : (n : ℕ) (verb : Verb) (words : List (List ℕ)) (given : Given) (at : ℕ) → is_option (slice_get words at) ≡ true → options_from (suc n) verb words given at ≡ (used verb words given at >>= λ next. options_from n verb words next.0 next.1)
+pub step : (n : ℕ) (verb : Verb) (words : List (List ℕ)) (given : Given) (at : ℕ) → is_option (slice_get words at) ≡ true → options_from (suc n) verb words given at ≡ (used verb words given at >>= λ next. options_from n verb words next.0 next.1)
 unfolding options_from
 step n verb words given at go = rw go refl
 

@@ -59,6 +59,7 @@ granted_of made value = in_module (parted 47 value) where
   in_package : List ℕ → Option (List ℕ × List ℕ) → Option Added
   in_package m None = None
   in_package m (Some (typed, n)) = if names_a_module m && (is_typed_package typed && names_a_module n) then Some (made m (slashed typed) n) else None
+
   in_module : Option (List ℕ × List ℕ) → Option Added
   in_module None = None
   in_module (Some (m, rest)) = in_package m (parted_last 61 rest)
@@ -204,6 +205,7 @@ run_at words given at = by (slice_get words at) where
   to : Option (List ℕ × Option (List ℕ)) → Result Command WordFault
   to None = Err (faults.BadTarget at)
   to (Some main) = Ok (Run (run_words given main (drop (at + 1) words)))
+
   by : Option (List ℕ) → Result Command WordFault
   by None = Err (faults.Missing (codes "MODULE/CLASS"))
   by (Some word) = to (target_of word)

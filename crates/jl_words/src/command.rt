@@ -16,7 +16,10 @@ pub enum Command {
     /// To run a program.
     Run(RunWords),
     /// To run a sample of so many modules, for at most so many steps.
-    Sample { n: u32, bound: u64 },
+    Sample {
+        n: u32,
+        bound: u64,
+    },
 }
 
 /// The program that is to run, and how.

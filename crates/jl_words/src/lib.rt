@@ -14,3 +14,6 @@ mod texts;
 pub use command::{Added, Command, RunWords};
 pub use fault::WordFault;
 pub use reading::read_words;
+
+#[cfg(test)]
+mod tests;

@@ -1,3 +1,4 @@
+use Rattle.jl_words.proofs.LineLaws.{plain_adds}
 use Rattle.std.proofs.Common.{arith}
 use Rattle.std.specs.String.{string_bytes}
 use Rattle.std.proofs.lemmas.List.{length-take}
