@@ -1,21 +1,20 @@
 -- Texts cut at a separator, and numbers read digit by digit.
-use Rattle.std.proofs.Common.{◌≡◌, ◌≢◌, ℕ, zero, suc, ◌+◌, ◌*◌, ◌-◌, ◌^◌, ◌<◌, ◌≤◌, ◌==◌, nat_lt, List, [], ◌∷◌, ◌++◌, length, filter, Bool, true, false, not, cond, ◌&&◌, Option, None, Some, option_map, get_or, Bor, refl, sym, ap, subst, ◌∙◌, arith}
+use Rattle.std.proofs.Common.{◌≡◌, ◌≢◌, ℕ, suc, ◌+◌, ◌*◌, ◌-◌, ◌^◌, ◌<◌, ◌≤◌, ◌==◌, nat_lt, List, [], ◌∷◌, ◌++◌, length, filter, Bool, true, false, not, cond, Option, None, Some, option_map, get_or, Bor, refl, sym, ap, subst, ◌∙◌, arith}
 use Rattle.std.specs.Prelude.{MatchOption, IfOk, is_some, Result, Ok, Err}
 use Rattle.std.specs.Option.{unwrap_or}
-use Rattle.std.specs.List.{list_all}
 use Rattle.std.specs.Str.Pattern.{RFindsChar, SplitsAroundMatch}
 use Rattle.std.specs.Str.{NoCharPasses}
 use Rattle.std.proofs.lemmas.Bool.{eqb-true, true≢false, le-ltb, lt-ltb, ltb-true, ltb-false}
 use Rattle.std.proofs.lemmas.List.{append_assoc, take-append-drop}
 use Rattle.std.proofs.lemmas.Str.Pattern.{IsSplitOnceResult, split_parts, NoCharPasses-char, drop_at_char}
-use Rattle.jl_words.specs.Values.{is_empty, is_digit, with_first, split, path_parts, listed, spelled}
+use Rattle.jl_words.specs.Values.{is_empty, with_first, split, path_parts, listed, spelled}
 use Rattle.jl_words.specs.Reading.{parted, parted_last}
 
 -- none of the bytes is c
 abbrev pub Lacks : ℕ → List ℕ → Type 0
 Lacks c bs = (i : ℕ) → i < length bs → get_or bs i 0 ≢ c
 
-differs : (b c : ℕ) → b ≢ c → (b == c) ≡ false
+pub differs : (b c : ℕ) → b ≢ c → (b == c) ≡ false
 differs b c other = by (b == c) refl
   where
     by : (t : Bool) → (b == c) ≡ t → t ≡ false

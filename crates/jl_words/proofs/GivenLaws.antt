@@ -1,13 +1,11 @@
 -- What is given after the uses of a well-formed line.
-use Rattle.std.proofs.Common.{◌≡◌, ℕ, zero, suc, ◌+◌, ◌<◌, ◌≤◌, List, [], ◌∷◌, ◌++◌, length, map, filter, drop, Bool, true, false, not, cond, ◌&&◌, ◌||◌, IsTrue, Option, None, Some, Result, Ok, Err, refl, sym, ap, subst, ◌∙◌, arith}
+use Rattle.std.proofs.Common.{◌≡◌, ℕ, zero, suc, ◌+◌, ◌≤◌, List, [], ◌∷◌, ◌++◌, length, map, drop, Bool, true, false, cond, Option, None, Some, Result, Ok, Err, refl, sym, ap, subst, ◌∙◌, arith}
 use Rattle.std.specs.Prelude.{is_some, slice_get, ⊤}
-use Rattle.std.specs.List.{list_all, flat_map, AllByRecursion}
+use Rattle.std.specs.List.{flat_map, AllByRecursion}
 use Rattle.std.proofs.lemmas.Bool.{true≢false}
-use Rattle.std.proofs.lemmas.List.{append_assoc, append-nil, length-append, length-map}
+use Rattle.std.proofs.lemmas.List.{append_assoc, append-nil, length-append}
 use Rattle.std.proofs.lemmas.Option.{slice_get_past}
-use Rattle.jl_prim.specs.Names.{names_a_module}
 use Rattle.jl_reading.specs.Reading.{◌>>=◌}
-use Rattle.jl_logic.proofs.Rising.{each_in_append}
 use Rattle.jl_words.specs.declared.command.Added.{Added}
 use Rattle.jl_words.specs.declared.fault.WordFault.{WordFault}
 use Rattle.jl_words.specs.declared.given.Given.{Given}
@@ -15,11 +13,10 @@ use Rattle.jl_words.specs.declared.setting.Setting.{Setting}
 use Rattle.jl_words.specs.declared.setting.Setting.TheVariants as settings
 use Rattle.jl_words.specs.declared.setting.Verb.{Verb}
 use Rattle.jl_words.specs.Settings.{setting_text, is_flag, is_single, is_setting}
-use Rattle.jl_words.specs.Values.{path_parts, listed, number_of, IsNumber, IsAdded}
-use Rattle.jl_words.specs.Line.{Use, use_words, uses_of, values_of, IsUse, Match, adds, usual_steps, IsBound, is_some_use}
-use Rattle.jl_words.specs.Reading.{is_given, added_of, is_option, word_of, use_of, named_by, options_from, or_none, or_usual}
+use Rattle.jl_words.specs.Values.{path_parts, listed, number_of}
+use Rattle.jl_words.specs.Line.{Use, use_words, uses_of, values_of, IsUse}
+use Rattle.jl_words.specs.Reading.{is_given, added_of, is_option, word_of, use_of, named_by, options_from}
 use Rattle.jl_words.proofs.Uses.{used, options_stop, step}
-use Rattle.jl_words.proofs.ValueLaws.{same_in, both, number_is, number_found, added_is, added_found}
 use Rattle.jl_words.proofs.UseLaws.{ok_in, err_ok, listed_fact, put, fine, Adds, Used, at_word, used_from, used_read}
 
 abbrev pub put_all : List Use → Given → Given
@@ -77,7 +74,7 @@ from_options (suc n) verb words given after at next enough e = by (slice_get wor
 
 -- ---- uses are read
 
-head_at : (words rest : List (List ℕ)) (at : ℕ) → drop at words ≡ rest → slice_get words at ≡ slice_get rest 0
+pub head_at : (words rest : List (List ℕ)) (at : ℕ) → drop at words ≡ rest → slice_get words at ≡ slice_get rest 0
 head_at [] rest zero e = ap (λ l. slice_get l 0) e
 head_at [] rest (suc at) e = ap (λ l. slice_get l 0) e
 head_at (w ∷ ws) rest zero e = ap (λ l. slice_get l 0) e

@@ -6,3 +6,4 @@ mod ValueLaws
 mod UseLaws
 mod GivenLaws
 mod LineLaws
+mod FoundLaws

@@ -1,14 +1,12 @@
 -- That what is read is what a well-formed line says, and the other way round.
-use Rattle.std.proofs.Common.{◌≡◌, ℕ, zero, suc, ◌+◌, ◌<◌, ◌≤◌, nat_lt, nat_le, List, [], ◌∷◌, ◌++◌, length, map, filter, drop, Bool, true, false, not, cond, ◌&&◌, ◌||◌, IsTrue, Option, None, Some, Result, Ok, Err, refl, sym, ap, subst, ◌∙◌, arith}
-use Rattle.std.specs.Prelude.{is_some, slice_get, position, codes, ⊤}
-use Rattle.std.specs.List.{list_all, flat_map, AllByRecursion, prefix_len}
-use Rattle.std.proofs.lemmas.Bool.{true≢false, le-ltb, lt-ltb, ltb-true, ltb-false, leb-true, le-leb}
-use Rattle.std.proofs.lemmas.List.{append-nil, length-map, length-append}
-use Rattle.std.proofs.lemmas.Option.{slice_get_within}
+use Rattle.std.proofs.Common.{◌≡◌, ℕ, ◌≤◌, List, [], ◌∷◌, ◌++◌, length, map, filter, Bool, true, false, cond, ◌||◌, IsTrue, Option, None, Some, refl, sym, ap, subst, ◌∙◌, arith}
+use Rattle.std.specs.Prelude.{is_some}
+use Rattle.std.specs.List.{list_all, flat_map, AllByRecursion}
+use Rattle.std.proofs.lemmas.Bool.{true≢false}
+use Rattle.std.proofs.lemmas.List.{append-nil, length-map}
 use Rattle.jl_prim.specs.Names.{names_a_module}
 use Rattle.jl_logic.proofs.Rising.{each_in_append}
 use Rattle.jl_words.specs.declared.command.Added.{Added}
-use Rattle.jl_words.specs.declared.fault.WordFault.{WordFault}
 use Rattle.jl_words.specs.declared.given.Given.{Given}
 use Rattle.jl_words.specs.declared.setting.Setting.{Setting}
 use Rattle.jl_words.specs.declared.setting.Setting.TheVariants as settings
@@ -16,9 +14,9 @@ use Rattle.jl_words.specs.declared.setting.Verb.{Verb}
 use Rattle.jl_words.specs.declared.setting.Verb.TheVariants as verbs
 use Rattle.jl_words.specs.Settings.{is_single, is_setting, has_setting}
 use Rattle.jl_words.specs.Values.{path_parts, listed, number_of, IsNumber, IsAdded}
-use Rattle.jl_words.specs.Line.{Use, uses_of, values_of, IsUse, AreUses, Match, adds, usual_steps, IsBound, is_some_use, AreElements, AreRoots, AreAdded}
+use Rattle.jl_words.specs.Line.{Use, uses_of, values_of, IsUse, AreUses, Match, adds, IsBound, is_some_use, AreElements, AreRoots, AreAdded}
 use Rattle.jl_words.specs.Reading.{is_given, added_of, nothing, or_none, or_usual}
-use Rattle.jl_words.proofs.ValueLaws.{none_some, both, number_is, number_found, added_is, added_found}
+use Rattle.jl_words.proofs.ValueLaws.{both, number_is, number_found, added_is, added_found}
 use Rattle.jl_words.proofs.UseLaws.{listed_fact, fine}
 use Rattle.jl_words.proofs.GivenLaws.{put_all, Ready, last_path, last_steps, last_report, facts, elements_given, steps_given, report_given, add_given, added_given, count, Fine, ready_parts, ready_from}
 

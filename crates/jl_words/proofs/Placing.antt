@@ -1,7 +1,7 @@
 -- Places among words.
-use Rattle.std.proofs.Common.{◌≡◌, ℕ, zero, suc, ◌+◌, ◌-◌, ◌≤◌, List, [], ◌∷◌, map, length, Bool, true, false, not, cond, drop, take, Option, Some, None, nat_lt, refl, ap, sym, ◌∙◌, arith}
+use Rattle.std.proofs.Common.{◌≡◌, ℕ, ◌+◌, ◌-◌, List, [], ◌∷◌, map, length, Bool, not, cond, drop, take, Option, refl, ap, sym, ◌∙◌, arith}
 use Rattle.std.proofs.lemmas.List.{drop-map, length-map, length-drop, take_all}
-use Rattle.std.specs.List.{position, position_or_len, prefix_len}
+use Rattle.std.specs.List.{position, prefix_len}
 
 prefix_of_words : {W : Type 0} (p : List ℕ → Bool) (f : W → List ℕ) (ws : List W) → prefix_len p (map f ws) ≡ prefix_len (λ w. p (f w)) ws
 prefix_of_words p f [] = refl

@@ -1,14 +1,11 @@
 -- Options, and the uses that a well-formed line has.
-use Rattle.std.proofs.Common.{◌≡◌, ℕ, zero, suc, ◌+◌, ◌<◌, ◌≤◌, List, [], ◌∷◌, ◌++◌, length, drop, Bool, true, false, not, cond, ◌&&◌, Option, None, Some, Result, Ok, Err, refl, sym, ap, subst, ◌∙◌, arith}
-use Rattle.std.specs.Prelude.{is_some, is_ok, slice_get, ⊤}
-use Rattle.std.specs.List.{list_all, flat_map}
+use Rattle.std.proofs.Common.{◌≡◌, ℕ, zero, suc, ◌+◌, ◌<◌, List, [], ◌∷◌, ◌++◌, drop, Bool, true, false, not, cond, ◌&&◌, Option, None, Some, Result, Ok, Err, refl, sym, ap, subst, ◌∙◌, arith}
+use Rattle.std.specs.Prelude.{is_some, is_ok, slice_get}
+use Rattle.std.specs.List.{list_all}
 use Rattle.std.specs.Cmp.Lexicographic.{bytes_decides}
 use Rattle.std.proofs.lemmas.Bool.{true≢false}
-use Rattle.std.proofs.lemmas.List.{append_assoc}
-use Rattle.std.proofs.lemmas.Option.{slice_get_past}
 use Rattle.jl_logic.specs.Order.{is_text}
 use Rattle.jl_prim.specs.Names.{names_a_module}
-use Rattle.jl_reading.specs.Reading.{◌>>=◌}
 use Rattle.jl_words.specs.declared.command.Added.{Added}
 use Rattle.jl_words.specs.declared.fault.WordFault.{WordFault}
 use Rattle.jl_words.specs.declared.fault.WordFault.TheVariants as faults
@@ -19,8 +16,7 @@ use Rattle.jl_words.specs.declared.setting.Verb.{Verb}
 use Rattle.jl_words.specs.Settings.{setting_text, has_setting, is_flag}
 use Rattle.jl_words.specs.Values.{path_parts, listed, number_of}
 use Rattle.jl_words.specs.Line.{Use, use_words, IsUse}
-use Rattle.jl_words.specs.Reading.{parted, setting_of, fits, fitting, named_by, is_given, with_value, added_of, with_added, with_steps, and_then, valued, use_of, is_option, word_of, options_from}
-use Rattle.jl_words.proofs.Uses.{options_stop, step}
+use Rattle.jl_words.specs.Reading.{parted, setting_of, fits, fitting, named_by, is_given, with_value, added_of, with_added, with_steps, and_then, valued, use_of, is_option, word_of}
 use Rattle.jl_words.proofs.ValueLaws.{same_in, none_some, both, whole}
 
 pub ok_in : {X F : Type 0} (x y : X) → ◌≡◌ {A = Result X F} (Ok x) (Ok y) → x ≡ y
@@ -254,7 +250,7 @@ at_word [] at word e = absurd (none_some word e)
 at_word (w ∷ ws) zero word e = ap (λ x. x ∷ ws) (same_in w word e)
 at_word (w ∷ ws) (suc at) word e = at_word ws at word e
 
-from_word : (words : List (List ℕ)) (at : ℕ) (word : List ℕ) (rest : List (List ℕ)) → drop at words ≡ word ∷ rest → (slice_get words at ≡ Some word) × (drop (suc at) words ≡ rest)
+pub from_word : (words : List (List ℕ)) (at : ℕ) (word : List ℕ) (rest : List (List ℕ)) → drop at words ≡ word ∷ rest → (slice_get words at ≡ Some word) × (drop (suc at) words ≡ rest)
 from_word [] zero word rest e = absurd (true≢false (ap is_nil e))
 from_word [] (suc at) word rest e = absurd (true≢false (ap is_nil e))
 from_word (w ∷ ws) zero word rest e = (ap Some (ap (λ l. head_or word l) e), ap tail_of e)

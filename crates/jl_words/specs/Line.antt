@@ -1,5 +1,5 @@
 -- What a well-formed command line is.
-use Rattle.std.specs.Prelude.{◌≡◌, ℕ, ◌<◌, ◌≤◌, nat_le, List, [], ◌∷◌, ◌++◌, length, map, filter, Option, None, Some, Bool, true, false, not, ◌||◌, ◌==◌, IsTrue, codes, ⊤, if◌then◌else◌}
+use Rattle.std.specs.Prelude.{◌≡◌, ℕ, ◌≤◌, List, [], ◌∷◌, ◌++◌, length, map, filter, Bool, true, false, ◌||◌, ◌==◌, IsTrue, ⊤, if◌then◌else◌}
 use Rattle.std.specs.List.{flat_map, AllByRecursion}
 use Rattle.jl_prim.specs.Names.{names_a_module}
 use Rattle.jl_words.specs.declared.command.Added.{Added}

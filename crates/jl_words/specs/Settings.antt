@@ -1,5 +1,5 @@
 -- The options of the commands.
-use Rattle.std.specs.Prelude.{ℕ, List, [], ◌∷◌, Bool, true, false, codes}
+use Rattle.std.specs.Prelude.{ℕ, List, Bool, true, false, codes}
 use Rattle.jl_words.specs.declared.setting.Setting.{Setting}
 use Rattle.jl_words.specs.declared.setting.Setting.TheVariants.{ModulePath, AddModules, AddReads, AddExports, AddOpens, Steps, Report}
 use Rattle.jl_words.specs.declared.setting.Verb.{Verb}

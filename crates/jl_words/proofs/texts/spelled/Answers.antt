@@ -1,4 +1,3 @@
-use Rattle.std.proofs.Common.{arith}
 use Rattle.jl_words.proofs.Cutting.{spelled_over, spelled_all}
 use Rattle.jl_words.proofs.texts.spelled.Goals as goal
 
