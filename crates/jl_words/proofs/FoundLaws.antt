@@ -54,6 +54,7 @@ some_place p xs e = by (list_all p xs) refl
   where
     found : list_all p xs ≡ false → position (λ x. not (p x)) xs ≡ Some (prefix_len (λ x. not (not (p x))) xs)
     found none = rw (lt-ltb (prefix_len (λ x. not (not (p x))) xs) (length xs) (one_fails p xs none)) refl
+
     by : (t : Bool) → list_all p xs ≡ t → t ≡ true
     by true all = refl
     by false none = absurd (none_some _ (sym e ∙ found none))
@@ -65,6 +66,7 @@ resolve_is words given at c e = by (nat_lt at (length words)) refl e
     roots : at < length words → (r : Option ℕ) → position (λ n. not (names_a_module n)) (drop at words) ≡ r → roots_or r given words at ≡ Ok c → (at < length words) × AllByRecursion (λ n. IsTrue (names_a_module n)) (drop at words) × (Resolve (or_none given.elements) given.add (drop at words) ≡ c)
     roots less None none e = (less, all_true names_a_module (drop at words) (some_place names_a_module (drop at words) none), ok_in {F = WordFault} _ _ e)
     roots less (Some k) none e = absurd (err_ok _ _ e)
+
     by : (t : Bool) → nat_lt at (length words) ≡ t → cond t (roots_or (position (λ n. not (names_a_module n)) (drop at words)) given words at) (Err (faults.Missing (codes "ROOT"))) ≡ Ok c → (at < length words) × AllByRecursion (λ n. IsTrue (names_a_module n)) (drop at words) × (Resolve (or_none given.elements) given.add (drop at words) ≡ c)
     by true less e = roots (ltb-true _ _ less) (position (λ n. not (names_a_module n)) (drop at words)) refl e
     by false less e = absurd (err_ok _ _ e)
@@ -93,6 +95,7 @@ run_is words given at c e = by (slice_get words at) refl
     to : (word : List ℕ) → slice_get words at ≡ Some word → (r : Option (List ℕ × Option (List ℕ))) → target_of word ≡ r → (word : List ℕ) × (main : List ℕ × Option (List ℕ)) × (slice_get words at ≡ Some word) × (target_of word ≡ Some main) × (Run (run_words given main (drop (at + 1) words)) ≡ c)
     to word here None f = absurd (err_ok _ _ (sym (run_wrong words given at word here f) ∙ e))
     to word here (Some main) f = (word, main, here, f, ok_in {F = WordFault} _ _ (sym (run_found words given at word main here f) ∙ e))
+
     by : (r : Option (List ℕ)) → slice_get words at ≡ r → (word : List ℕ) × (main : List ℕ × Option (List ℕ)) × (slice_get words at ≡ Some word) × (target_of word ≡ Some main) × (Run (run_words given main (drop (at + 1) words)) ≡ c)
     by None here = absurd (err_ok _ _ (sym (run_lacks words given at here) ∙ e))
     by (Some word) here = to word here (target_of word) refl
@@ -136,6 +139,7 @@ sample_is words at c e =
     last : (n : ℕ) (number : List ℕ) → slice_get words at ≡ Some number → IsNumber number n → (1 ≤ n) × (n ≤ 1000) → (b : ℕ) (limit : List ℕ) → slice_get words (at + 1) ≡ Some limit → IsNumber limit b → (t : Bool) → nat_lt (at + 2) (length words) ≡ t → cond t (Err (faults.UnknownWord (at + 2))) (Ok (Sample n b)) ≡ Ok c → Sampled words at c
     last n number here is few b limit next bounds true more e = absurd (err_ok _ _ e)
     last n number here is few b limit next bounds false more e = record { number = number; limit = limit; n = n; bound = b; first = here; second = next; counts = is; few = few; bounds = bounds; last = ltb-false _ _ more; gives = ok_in {F = WordFault} _ _ e }
+
     by : (n : ℕ) (number : List ℕ) → slice_get words at ≡ Some number → IsNumber number n → (t : Bool) → (nat_le 1 n && nat_le n 1000) ≡ t
         → cond (not t) (Err (faults.BadNumber at)) (number_or (codes "BOUND") (slice_get words (at + 1)) (at + 1) >>= λ bound. cond (nat_lt (at + 2) (length words)) (Err (faults.UnknownWord (at + 2))) (Ok (Sample n bound))) ≡ Ok c → Sampled words at c
     by n number here is false few e = absurd (err_ok _ _ e)
@@ -230,7 +234,7 @@ module _ (w : List ℕ) (ws : List (List ℕ)) (after : Given) (next : ℕ) (c :
       let none = no_uses u.uses nothing u.ready in
       let place : next + 1 ≡ suc next = omega arith in
       let rest : drop next (w ∷ ws) ≡ r.number ∷ r.limit ∷ [] =
-          at_word (w ∷ ws) next r.number r.first ∙ ap (λ l. r.number ∷ l) (at_word (w ∷ ws) (suc next) r.limit (ap (slice_get (w ∷ ws)) (sym place) ∙ r.second) ∙ ap (λ l. r.limit ∷ l) (ends_there (w ∷ ws) (suc (suc next)) (omega (arith, r.last)))) in
+      at_word (w ∷ ws) next r.number r.first ∙ ap (λ l. r.number ∷ l) (at_word (w ∷ ws) (suc next) r.limit (ap (slice_get (w ∷ ws)) (sym place) ∙ r.second) ∙ ap (λ l. r.limit ∷ l) (ends_there (w ∷ ws) (suc (suc next)) (omega (arith, r.last)))) in
       let line : IsSample (w ∷ ws) r.n r.bound = record {
         number = r.number;
         limit = r.limit;
@@ -277,9 +281,9 @@ into verb uses rest ready stop =
 digits_stop : (text : List ℕ) (n : ℕ) → IsNumber text n → begins_with_dash text ≡ false
 digits_stop [] n is = refl
 digits_stop (b ∷ bs) n is =
-    let digits = both _ _ (both (not (is_empty (b ∷ bs))) _ is.digits).1 in
-    let digit = both (is_digit b) _ digits.1 in
-    let low : 48 ≤ b = leb-true 48 b (both (nat_le 48 b) _ digit.0).0 in
+    let digits = both (nat_le (length (b ∷ bs)) 20) (list_all is_digit (b ∷ bs)) (both (not (is_empty (b ∷ bs))) (nat_le (length (b ∷ bs)) 20 && list_all is_digit (b ∷ bs)) is.digits).1 in
+    let digit = both (is_digit b) (list_all is_digit bs) digits.1 in
+    let low : 48 ≤ b = leb-true 48 b (both (nat_le 48 b) (nat_le b 57) digit.0).0 in
     differs b 45 (λ e. omega (arith, low, e))
 
 resolve_into : (words elements add roots : List (List ℕ)) → IsResolve words elements add roots → line_read words ≡ Ok (Resolve elements add roots)
@@ -287,7 +291,7 @@ unfolding Into
 resolve_into words elements add roots is =
     let plain = plain_adds is.uses is.options.each in
     let m = meant_from verbs.Resolve is.uses elements add [] usual_steps (is_some_use (uses_of settings.Report is.uses)) is.options is.path is.added_roots
-      (subst (λ l. Match (λ (x : Use). IsAdded x.setting x.value) l []) (sym plain.0) tt) (subst (λ vs. IsBound vs usual_steps) (sym plain.1) refl) refl in
+    (subst (λ l. Match (λ (x : Use). IsAdded x.setting x.value) l []) (sym plain.0) tt) (subst (λ vs. IsBound vs usual_steps) (sym plain.1) refl) refl in
     let stop = stops roots is.operands in
     let x = into verbs.Resolve is.uses roots m.ready stop.0 in
     let line = verb_text verbs.Resolve ∷ (flat_map use_words is.uses ++ roots) in

@@ -60,14 +60,17 @@ from_options (suc n) verb words given after at next enough e = by (slice_get wor
   where
     Later : Type 0
     Later = (mid : Given) (near : ℕ) → length words ≤ near + n → options_from n verb words mid near ≡ Ok (after, next) → Uses verb words mid after near next
+
     read : Later → (word : List ℕ) → slice_get words at ≡ Some word → (r : Result (Given × ℕ) WordFault) → used verb words given at ≡ r → (r >>= λ x. options_from n verb words x.0 x.1) ≡ Ok (after, next) → Uses verb words given after at next
     read later word here (Err f) is e = absurd (err_ok _ _ e)
     read later word here (Ok x) is e =
         let u = used_from verb words given x.0 at x.1 word (at_word words at word here) (ap (λ w. use_of (named_by verb (word_of w)) words given at) (sym here) ∙ is) in
         one_more verb words given x.0 after at x.1 next u (later x.0 x.1 (omega (arith, u.further, enough)) e)
+
     option : Later → (word : List ℕ) → slice_get words at ≡ Some word → (t : Bool) → is_option (slice_get words at) ≡ t → Uses verb words given after at next
     option later word here false stop = ended verb words given after at next stop (sym (options_stop (suc n) verb words given at stop) ∙ e)
     option later word here true go = read later word here (used verb words given at) refl (sym (step n verb words given at go) ∙ e)
+
     by : (r : Option (List ℕ)) → slice_get words at ≡ r → Later → Uses verb words given after at next
     by None here later = let stop : is_option (slice_get words at) ≡ false = ap is_option here in ended verb words given after at next stop (sym (options_stop (suc n) verb words given at stop) ∙ e)
     by (Some word) here later = option later word here (is_option (slice_get words at)) refl

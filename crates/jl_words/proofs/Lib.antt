@@ -7,3 +7,4 @@ mod UseLaws
 mod GivenLaws
 mod LineLaws
 mod FoundLaws
+mod Rows

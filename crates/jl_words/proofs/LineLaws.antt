@@ -85,6 +85,7 @@ fine_from (u ∷ us) added r n m = let x = by u.setting refl added r n m (λ add
   where
     Later : Type 0
     Later = (added : List Added) → AllByRecursion (λ n. IsTrue (names_a_module n)) (flat_map listed (values_of settings.AddModules us)) → AllByRecursion (λ v. is_some (number_of v) ≡ true) (values_of settings.Steps us) → Match (λ (x : Use). IsAdded x.setting x.value) (filter adds us) added → Fine us × (added ≡ facts us)
+
     by : (t : Setting) → u.setting ≡ t → (added : List Added) → AllByRecursion (λ n. IsTrue (names_a_module n)) (flat_map listed (map (λ (x : Use). x.value) (cond (is_setting settings.AddModules t) (u ∷ uses_of settings.AddModules us) (uses_of settings.AddModules us)))) → AllByRecursion (λ v. is_some (number_of v) ≡ true) (map (λ (x : Use). x.value) (cond (is_setting settings.Steps t) (u ∷ uses_of settings.Steps us) (uses_of settings.Steps us)))
         → Match (λ (x : Use). IsAdded x.setting x.value) (cond (is_setting settings.AddReads t || (is_setting settings.AddExports t || is_setting settings.AddOpens t)) (u ∷ filter adds us) (filter adds us)) added → Later → (fine t u.value ≡ true) × Fine us × (added ≡ listed_fact (added_of t u.value) ++ facts us)
     by settings.ModulePath is added r n m later = let x = later added r n m in (refl, x.0, x.1)

@@ -295,7 +295,7 @@ module _ (verb : Verb) (words : List (List ℕ)) (given after : Given) (at next 
   used_joined : (value : List ℕ) → Named verb word s (Some value) → and_then (with_value s value at given) (at + 1) ≡ Ok (after, next) → Used verb words given after at next
   used_joined value named e =
       let flag : is_flag s ≡ false = off_both (is_flag s) named.flag in
-      let parts = and_then_is _ _ _ _ e in
+      let parts = and_then_is (with_value s value at given) (at + 1) next after e in
       let on : suc at ≡ next = omega (arith, parts.1) in
       let taken = taken_value s value at given after parts.0 in
       record {
@@ -307,7 +307,7 @@ module _ (verb : Verb) (words : List (List ℕ)) (given after : Given) (at next 
 
   used_flag : is_flag s ≡ true → Named verb word s None → and_then (with_value s [] at given) (at + 1) ≡ Ok (after, next) → Used verb words given after at next
   used_flag flag named e =
-      let parts = and_then_is _ _ _ _ e in
+      let parts = and_then_is (with_value s [] at given) (at + 1) next after e in
       let on : suc at ≡ next = omega (arith, parts.1) in
       let taken = taken_value s [] at given after parts.0 in
       record {
@@ -319,12 +319,12 @@ module _ (verb : Verb) (words : List (List ℕ)) (given after : Given) (at next 
 
   used_apart : (value : List ℕ) → is_flag s ≡ false → slice_get words (at + 1) ≡ Some value → Named verb word s None → and_then (with_value s value (at + 1) given) (at + 2) ≡ Ok (after, next) → Used verb words given after at next
   used_apart value flag second named e =
-      let parts = and_then_is _ _ _ _ e in
+      let parts = and_then_is (with_value s value (at + 1) given) (at + 2) next after e in
       let on : suc (suc at) ≡ next = omega (arith, parts.1) in
       let place : suc at ≡ at + 1 = omega arith in
       let taken = taken_value s value (at + 1) given after parts.0 in
       let more : drop (suc at) words ≡ value ∷ drop next words =
-          at_word words (suc at) value (ap (slice_get words) place ∙ second) ∙ ap (λ n. value ∷ drop n words) on in
+      at_word words (suc at) value (ap (slice_get words) place ∙ second) ∙ ap (λ n. value ∷ drop n words) on in
       record {
         it = record { setting = s; value = value; joined = false };
         adds = record { is = record { has = named.has; flag = λ f. absurd (true≢false (sym f ∙ flag)) }; first = first; good = taken.0; gives = taken.1 };
@@ -340,6 +340,7 @@ module _ (verb : Verb) (words : List (List ℕ)) (given after : Given) (at next 
       apart : is_flag s ≡ false → (r : Option (List ℕ)) → slice_get words (at + 1) ≡ r → Used verb words given after at next
       apart flag None second = absurd (err_ok _ _ (sym (valued_lacks s words given at flag second) ∙ e))
       apart flag (Some value) second = used_apart value flag second named (sym (valued_apart s words given at value flag second) ∙ e)
+
       by : (t : Bool) → is_flag s ≡ t → Used verb words given after at next
       by true flag = used_flag flag named (sym (valued_flag s words given at flag) ∙ e)
       by false flag = apart flag (slice_get words (at + 1)) refl
@@ -350,6 +351,7 @@ used_from verb words given after at next word here e = by (named_by verb word) (
     new : (s : Setting) (v : Option (List ℕ)) → Named verb word s v → (t : Bool) → is_given s given ≡ t → cond t (Err (faults.Repeated (setting_text s))) (valued s v words given at) ≡ Ok (after, next) → Used verb words given after at next
     new s v named true first e = absurd (err_ok _ _ e)
     new s v named false first e = used_valued verb words given after at next word s here first v named e
+
     by : (r : Option (Setting × Option (List ℕ))) → ((s : Setting) (v : Option (List ℕ)) → r ≡ Some (s, v) → Named verb word s v) → use_of r words given at ≡ Ok (after, next) → Used verb words given after at next
     by None is e = absurd (err_ok _ _ e)
     by (Some x) is e = new x.0 x.1 (is x.0 x.1 refl) (is_given x.0 given) refl e
@@ -370,15 +372,21 @@ used_read verb words rest given after at u adds text = by (is_flag u.setting) re
   where
     taken : (n : ℕ) → with_value u.setting u.value n given ≡ Ok after
     taken n = put_value u.setting u.value n given adds.good ∙ ap Ok adds.gives
+
     reads : (v : Option (List ℕ)) (next : ℕ) → (is_flag u.setting && is_some v) ≡ false → slice_get words at ≡ Some (named_word u.setting v) → valued u.setting v words given at ≡ Ok (after, next) → (is_option (slice_get words at) ≡ true) × (use_of (named_by verb (word_of (slice_get words at))) words given at ≡ Ok (after, next))
-    reads v next flag here e = (ap is_option here ∙ text_dash u.setting v,
-        ap (λ w. use_of (named_by verb (word_of w)) words given at) here ∙ ap (λ o. use_of o words given at) (named_found verb u.setting v adds.is.has flag)
-        ∙ ap (λ t. cond t (Err (faults.Repeated (setting_text u.setting))) (valued u.setting v words given at)) adds.first ∙ e)
+    reads v next flag here e = (
+      ap is_option here ∙ text_dash u.setting v,
+      ap (λ w. use_of (named_by verb (word_of w)) words given at) here ∙ ap (λ o. use_of o words given at) (named_found verb u.setting v adds.is.has flag)
+          ∙ ap (λ t. cond t (Err (faults.Repeated (setting_text u.setting))) (valued u.setting v words given at)) adds.first ∙ e,
+    )
+
     no_flag : is_flag u.setting ≡ false → (is_flag u.setting && true) ≡ false
     no_flag f = ap (λ t. t && true) f
+
     no_value : (t : Bool) → (t && false) ≡ false
     no_value true = refl
     no_value false = refl
+
     by : (t : Bool) → is_flag u.setting ≡ t → (j : Bool) → u.joined ≡ j → (next : ℕ) × (is_option (slice_get words at) ≡ true) × (use_of (named_by verb (word_of (slice_get words at))) words given at ≡ Ok (after, next)) × (drop next words ≡ rest)
     by true flag j is =
         let place : at + 1 ≡ suc at = omega arith in

@@ -32,6 +32,7 @@ whole c (b ∷ bs) x e = by (b == c) refl (parted c bs) (whole c bs) e
     later : (r : Option (List ℕ × List ℕ)) → ((y : List ℕ × List ℕ) → r ≡ Some y → bs ≡ y.0 ++ c ∷ y.1) → option_map (λ y. (b ∷ y.0, y.1)) r ≡ Some x → b ∷ bs ≡ x.0 ++ c ∷ x.1
     later None ih e = absurd (none_some x e)
     later (Some y) ih e = subst (λ z. b ∷ bs ≡ z.0 ++ c ∷ z.1) (same_in (b ∷ y.0, y.1) x e) (ap (λ l. b ∷ l) (ih y refl))
+
     by : (t : Bool) → (b == c) ≡ t → (r : Option (List ℕ × List ℕ)) → ((y : List ℕ × List ℕ) → r ≡ Some y → bs ≡ y.0 ++ c ∷ y.1) → cond t (Some ([], bs)) (option_map (λ y. (b ∷ y.0, y.1)) r) ≡ Some x → b ∷ bs ≡ x.0 ++ c ∷ x.1
     by true is r ih e = subst (λ z. b ∷ bs ≡ z.0 ++ c ∷ z.1) (same_in ([], bs) x e) (ap (λ d. d ∷ bs) (eqb-true b c is))
     by false is r ih e = later r ih e
@@ -55,6 +56,7 @@ whole_last c (b ∷ bs) x e = by (parted_last c bs) refl (whole_last c bs)
     here : (t : Bool) → (b == c) ≡ t → cond t (Some ([], bs)) None ≡ Some x → b ∷ bs ≡ x.0 ++ c ∷ x.1
     here true is e = subst (λ z. b ∷ bs ≡ z.0 ++ c ∷ z.1) (same_in ([], bs) x e) (ap (λ d. d ∷ bs) (eqb-true b c is))
     here false is e = absurd (none_some x e)
+
     by : (r : Option (List ℕ × List ℕ)) → parted_last c bs ≡ r → ((y : List ℕ × List ℕ) → parted_last c bs ≡ Some y → bs ≡ y.0 ++ c ∷ y.1) → b ∷ bs ≡ x.0 ++ c ∷ x.1
     by (Some y) is ih = subst (λ z. b ∷ bs ≡ z.0 ++ c ∷ z.1) (same_in (b ∷ y.0, y.1) x (sym (last_later c b bs y is) ∙ e)) (ap (λ l. b ∷ l) (ih y is))
     by None is ih = here (b == c) refl (sym (last_here c b bs is) ∙ e)
@@ -99,6 +101,7 @@ reads_is value a e = by (parted 61 value) refl
     fits : (x : List ℕ × List ℕ) → parted 61 value ≡ Some x → (t : Bool) → (names_a_module x.0 && names_a_module x.1) ≡ t → cond t (Some (Reads x.0 x.1)) None ≡ Some a → IsAdded settings.AddReads value a
     fits x is true named e = subst (IsAdded settings.AddReads value) (same_in _ a e) (record { text = whole 61 value x is; names = named })
     fits x is false named e = absurd (none_some a e)
+
     by : (r : Option (List ℕ × List ℕ)) → parted 61 value ≡ r → IsAdded settings.AddReads value a
     by None is = absurd (none_some a (sym (reads_none value is) ∙ e))
     by (Some x) is = fits x is (names_a_module x.0 && names_a_module x.1) refl (sym (reads_some value x is) ∙ e)
@@ -126,9 +129,11 @@ module _ (made : List ℕ → List ℕ → List ℕ → Added) (value : List ℕ
           → (m : List ℕ) × (p : List ℕ) × (n : List ℕ) × (made m p n ≡ a) × IsGranted value m p n
       fits x y is last true named e = (x.0, slashed y.0, y.1, same_in _ a e, record { typed = y.0; text = whole 47 value x is ∙ ap (λ l. x.0 ++ 47 ∷ l) (whole_last 61 x.1 y last); internal = refl; names = named })
       fits x y is last false named e = absurd (none_some a e)
+
       inner : (x : List ℕ × List ℕ) → parted 47 value ≡ Some x → (r : Option (List ℕ × List ℕ)) → parted_last 61 x.1 ≡ r → (m : List ℕ) × (p : List ℕ) × (n : List ℕ) × (made m p n ≡ a) × IsGranted value m p n
       inner x is None last = absurd (none_some a (sym (granted_lost x is last) ∙ e))
       inner x is (Some y) last = fits x y is last (names_a_module x.0 && (is_typed_package y.0 && names_a_module y.1)) refl (sym (granted_some x y is last) ∙ e)
+
       by : (r : Option (List ℕ × List ℕ)) → parted 47 value ≡ r → (m : List ℕ) × (p : List ℕ) × (n : List ℕ) × (made m p n ≡ a) × IsGranted value m p n
       by None is = absurd (none_some a (sym (granted_none is) ∙ e))
       by (Some x) is = inner x is (parted_last 61 x.1) refl
@@ -178,9 +183,11 @@ target_is word main e = by (parted 47 word) refl
     alone : (t : Bool) → names_a_module word ≡ t → cond t (Some (word, None)) None ≡ Some main → IsTarget word main.0 main.1
     alone true named e = subst (λ x. IsTarget word x.0 x.1) (same_in (word, None) main e) (refl, named)
     alone false named e = absurd (none_some main e)
+
     fits : (x : List ℕ × List ℕ) → parted 47 word ≡ Some x → (t : Bool) → (names_a_module x.0 && is_typed_class x.1) ≡ t → cond t (Some (x.0, Some (slashed x.1))) None ≡ Some main → IsTarget word main.0 main.1
     fits x is true named e = subst (λ z. IsTarget word z.0 z.1) (same_in (x.0, Some (slashed x.1)) main e) (x.1, whole 47 word x is, refl, named)
     fits x is false named e = absurd (none_some main e)
+
     by : (r : Option (List ℕ × List ℕ)) → parted 47 word ≡ r → IsTarget word main.0 main.1
     by None is = alone (names_a_module word) refl (sym (target_none word is) ∙ e)
     by (Some x) is = fits x is (names_a_module x.0 && is_typed_class x.1) refl (sym (target_some word x is) ∙ e)
