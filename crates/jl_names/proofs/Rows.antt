@@ -1,5 +1,5 @@
 -- The definitions on worked rows.
-use Rattle.std.specs.Prelude.{◌≡◌, [], ◌∷◌, true, false, None, Some, Ok, Err, codes, refl}
+use Rattle.std.specs.Prelude.{◌≡◌, [], ◌∷◌, true, false, None, Ok, Err, codes, refl}
 use Rattle.jl_names.specs.declared.fault.TextFault.TheVariants.{BadText}
 use Rattle.jl_names.specs.declared.types.BaseType.TheVariants.{Prim, Class}
 use Rattle.jl_names.specs.declared.types.FieldType.{FieldType}
