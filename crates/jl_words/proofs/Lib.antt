@@ -1,0 +1,10 @@
+mod Cutting
+mod Placing
+mod Uses
+mod Most
+mod ValueLaws
+mod UseLaws
+mod GivenLaws
+mod LineLaws
+mod FoundLaws
+mod Rows

@@ -1,0 +1,4 @@
+pub mod Settings
+pub mod Values
+pub mod Line
+pub mod Reading

@@ -1,0 +1,19 @@
+//! The words of the command line.
+#![tactic(auto)]
+
+mod command;
+mod fault;
+mod given;
+mod operands;
+mod options;
+mod reading;
+mod setting;
+mod targets;
+mod texts;
+
+pub use command::{Added, Command, RunWords};
+pub use fault::WordFault;
+pub use reading::read_words;
+
+#[cfg(test)]
+mod tests;
