@@ -1,22 +1,20 @@
 -- The contents of attributes: what is read stands there, and what stands there is read.
-use Rattle.std.proofs.Common.{◌≡◌, ℕ, ◌+◌, ◌<◌, ◌≤◌, List, [], ◌∷◌, ◌++◌, length, map, Bool, true, false, cond, eqb, Option, None, Some, Result, Ok, refl, sym, ap, ◌∙◌, subst, arith}
+use Rattle.std.proofs.Common.{◌≡◌, ℕ, ◌+◌, ◌<◌, List, [], ◌∷◌, ◌++◌, length, Bool, true, false, eqb, Some, Ok, refl, sym, ◌∙◌, subst}
 use Rattle.std.specs.Prelude.{codes}
-use Rattle.std.specs.List.{flat_map}
 use Rattle.std.proofs.lemmas.Bool.{eqb-true, eq-eqb}
-use Rattle.jl_reading.specs.Reading.{◌>>=◌, Stands, IsBytes, number_at, two}
+use Rattle.jl_reading.specs.Reading.{Stands, IsBytes, number_at, two}
 use Rattle.jl_reading.proofs.Steps.{bind_ok, ok_is}
 use Rattle.jl_prim.specs.declared.declaration.Grant.{Grant}
 use Rattle.jl_pool.specs.declared.entry.Entry.{Entry}
 use Rattle.jl_modinfo.specs.declared.module.Module.{Module}
-use Rattle.jl_modinfo.specs.declared.fault.InfoFault.{InfoFault}
 use Rattle.jl_modinfo.specs.declared.fault.InfoFault.TheVariants as faults
 use Rattle.jl_modinfo.specs.Faults.{short}
 use Rattle.jl_modinfo.specs.Meaning.{module_named, package_named, class_named, version_named, is_set}
 use Rattle.jl_modinfo.specs.Info.{Body, GrantRow, Names, NameAll, IsTable, IsRequires, IsGrant, IsProvides, Match, counted, requires_bytes, grant_bytes, provides_bytes, body_bytes}
 use Rattle.jl_modinfo.specs.Reading.{name_at, names_at, version_at, requires_table_at, grants_at, opened_named, provides_table_at, ended, module_at, packages_at, main_at}
-use Rattle.jl_modinfo.proofs.Standing.{Number, two_read, number_read, join, first, second, known, ends_at, bind_to, else_ok}
-use Rattle.jl_modinfo.proofs.TableLaws.{Table, match_as, table_as}
-use Rattle.jl_modinfo.proofs.EntryLaws.{Naming, name_stands, name_reads, version_stands, version_reads, names_stand, names_read, requires_table_stands, requires_table_reads, GrantBy, granted_package, grants_stand, grants_read, provides_table_stands, provides_table_reads, required_name, provided_service}
+use Rattle.jl_modinfo.proofs.Standing.{two_read, number_read, join, first, second, ends_at, bind_to, else_ok}
+use Rattle.jl_modinfo.proofs.TableLaws.{table_as}
+use Rattle.jl_modinfo.proofs.EntryLaws.{name_stands, name_reads, version_stands, version_reads, names_stand, names_read, requires_table_stands, requires_table_reads, GrantBy, granted_package, grants_stand, grants_read, provides_table_stands, provides_table_reads, required_name, provided_service}
 
 -- ---- all of the bytes
 

@@ -1,23 +1,22 @@
 -- The content of a Module attribute: what is read stands there, and what stands there is read.
-use Rattle.std.proofs.Common.{◌≡◌, ℕ, ◌+◌, ◌<◌, ◌≤◌, List, [], ◌∷◌, ◌++◌, length, map, Bool, true, false, eqb, Option, None, Some, Result, Ok, refl, sym, ap, ◌∙◌, subst, arith}
+use Rattle.std.proofs.Common.{◌≡◌, ℕ, ◌+◌, ◌<◌, List, [], ◌∷◌, ◌++◌, length, map, Bool, true, false, eqb, Option, None, Some, Ok, refl, sym, ap, ◌∙◌, subst, arith}
 use Rattle.std.specs.Prelude.{Contains, codes}
 use Rattle.std.specs.List.{flat_map}
 use Rattle.std.proofs.lemmas.Bool.{eqb-true, eq-eqb}
 use Rattle.jl_logic.specs.Lists.{AreDistinct}
-use Rattle.jl_reading.specs.Reading.{◌>>=◌, Stands, IsBytes, number_at, each_at, two}
+use Rattle.jl_reading.specs.Reading.{Stands, IsBytes, number_at, two}
 use Rattle.jl_reading.proofs.Steps.{bind_ok, guard_ok, ok_is}
 use Rattle.jl_prim.specs.declared.declaration.Requires.{Requires}
 use Rattle.jl_prim.specs.declared.declaration.Grant.{Grant}
 use Rattle.jl_prim.specs.declared.declaration.Provides.{Provides}
 use Rattle.jl_pool.specs.declared.entry.Entry.{Entry}
-use Rattle.jl_modinfo.specs.declared.fault.InfoFault.{InfoFault}
 use Rattle.jl_modinfo.specs.declared.fault.InfoFault.TheVariants as faults
 use Rattle.jl_modinfo.specs.Faults.{short, named_or}
-use Rattle.jl_modinfo.specs.Meaning.{module_named, package_named, class_named, version_named, is_set, is_among, targets_of}
-use Rattle.jl_modinfo.specs.Info.{RequiresRow, GrantRow, ProvidesRow, Names, NameAll, IsTable, IsRequires, IsProvides, Match, counted, requires_bytes, grant_bytes, provides_bytes}
+use Rattle.jl_modinfo.specs.Meaning.{module_named, class_named, version_named, is_among, targets_of}
+use Rattle.jl_modinfo.specs.Info.{RequiresRow, GrantRow, ProvidesRow, Names, NameAll, IsTable, IsRequires, IsProvides, counted, requires_bytes, grant_bytes, provides_bytes}
 use Rattle.jl_modinfo.specs.Reading.{name_at, new_name_at, names_at, version_at, requires_at, requires_table_at, grant_at, grants_at, implementations_at, provides_at, provides_table_at}
 use Rattle.jl_modinfo.proofs.NameLaws.{not_among, among_not}
-use Rattle.jl_modinfo.proofs.Standing.{Number, two_read, number_read, join, first, second, known, ends_at, bind_to}
+use Rattle.jl_modinfo.proofs.Standing.{Number, two_read, number_read, join, first, second, bind_to}
 use Rattle.jl_modinfo.proofs.TableLaws.{Row, EntryStands, EntryReads, Table, rows_counted, rows_read, table_stands, table_reads}
 
 abbrev pub Naming : Type 0

@@ -1,9 +1,9 @@
 -- A declaration file: what is read stands there, and what stands there is read.
-use Rattle.std.proofs.Common.{◌≡◌, ℕ, ◌+◌, ◌<◌, ◌≤◌, List, [], ◌∷◌, ◌++◌, length, Bool, true, false, cond, eqb, Option, None, Some, Result, Ok, Err, refl, sym, ap, ◌∙◌, subst, inl, inr, arith}
-use Rattle.std.specs.Prelude.{IsTrue, IfOk, codes, ◌⊎◌, ◌↔◌}
+use Rattle.std.proofs.Common.{◌≡◌, ℕ, ◌+◌, List, [], ◌∷◌, ◌++◌, length, eqb, Option, None, Some, Result, Ok, Err, refl, sym, ap, ◌∙◌, subst, inl, inr}
+use Rattle.std.specs.Prelude.{IsTrue, IfOk, codes, ◌↔◌}
 use Rattle.std.proofs.lemmas.Bool.{eqb-true, eq-eqb}
 use Rattle.jl_logic.specs.Answers.{Gives}
-use Rattle.jl_reading.specs.Reading.{Stands, IsBytes, two, four}
+use Rattle.jl_reading.specs.Reading.{IsBytes, two}
 use Rattle.jl_reading.proofs.Steps.{bind_ok, ok_is}
 use Rattle.jl_prim.specs.declared.declaration.Declaration.{Declaration}
 use Rattle.jl_pool.specs.declared.entry.Entry.{Entry}
@@ -17,11 +17,10 @@ use Rattle.jl_modinfo.specs.declared.fault.InfoFault.{InfoFault}
 use Rattle.jl_modinfo.specs.declared.fault.InfoFault.TheVariants as faults
 use Rattle.jl_modinfo.specs.Faults.{told, pool_or}
 use Rattle.jl_modinfo.specs.Rules.{keeps_base_rule, missing_package}
-use Rattle.jl_modinfo.specs.Info.{Attribute, IsInfo, IsBody, ArePackages, IsMain, body_bytes, counted, attribute_bytes, contents}
+use Rattle.jl_modinfo.specs.Info.{Attribute, IsInfo, ArePackages, IsMain, body_bytes, counted, attribute_bytes, contents}
 use Rattle.jl_modinfo.specs.Reading.{attributes_at, whole, ruled, all_there, or_found, declaration_of, front_at, empty_class_at, info_of}
 use Rattle.jl_modinfo.proofs.FrontLaws.{Front, front_stands, front_reads, EmptyClass, empty_class_stands, empty_class_reads}
-use Rattle.jl_modinfo.proofs.BodyLaws.{Declares}
-use Rattle.jl_modinfo.proofs.AttributeLaws.{AtMostOne, IsModuleContent, IsPackagesContent, IsMainContent, Declared, AllStand, attributes_stand, attributes_again}
+use Rattle.jl_modinfo.proofs.AttributeLaws.{AtMostOne, IsPackagesContent, IsMainContent, Declared, AllStand, attributes_stand, attributes_again}
 use Rattle.jl_modinfo.proofs.Standing.{join, first, second, ends_at, bind_to, else_ok}
 
 -- ---- the rules
@@ -175,18 +174,26 @@ same_declaration d packages e = λ i. record {
 declared_in : (bytes : List ℕ) (found : List (List ℕ)) (d : Declaration) (i : IsInfo bytes found d) (l : Listed i.pool i.attributes found d.packages)
     → Declared i.pool i.attributes (record { «module» = Some (module_in d); packages = l.listed; main = d.main })
 declared_in bytes found d i l = record {
-  modules = (body_bytes i.body, i.module_there, (i.body, refl, record {
-    fits = i.declares.fits;
-    name = i.declares.name;
-    is_open = i.declares.is_open;
-    version = i.declares.version;
-    required = i.declares.required;
-    exports = i.declares.exports;
-    opens = i.declares.opens;
-    closed = i.declares.closed;
-    uses = i.declares.uses;
-    provides = i.declares.provides;
-  }));
+  modules = (
+    body_bytes i.body,
+    i.module_there,
+    (
+      i.body,
+      refl,
+      record {
+        fits = i.declares.fits;
+        name = i.declares.name;
+        is_open = i.declares.is_open;
+        version = i.declares.version;
+        required = i.declares.required;
+        exports = i.declares.exports;
+        opens = i.declares.opens;
+        closed = i.declares.closed;
+        uses = i.declares.uses;
+        provides = i.declares.provides;
+      },
+    ),
+  );
   packages = l.one;
   main = main_in i.pool i.attributes d.main i.main;
 }

@@ -1,3 +1,5 @@
+mod Rows
+mod TextRows
 pub mod Standing
 pub mod NameLaws
 pub mod AttributesLoop

@@ -1,5 +1,5 @@
 -- Names that are apart, and whether one of them is there.
-use Rattle.std.proofs.Common.{◌≡◌, ℕ, zero, suc, List, [], ◌∷◌, ◌++◌, map, Bool, true, false, refl, sym, ap, subst, ◌∙◌, inl, inr, arith}
+use Rattle.std.proofs.Common.{◌≡◌, ℕ, zero, suc, List, [], ◌∷◌, ◌++◌, map, Bool, true, false, refl, sym, ◌∙◌, inl, inr, arith}
 use Rattle.std.specs.Prelude.{◌||◌, Contains, nat_eq}
 use Rattle.std.proofs.lemmas.List.Elements.{Contains-push_cases, Contains-append_cases, Contains-append_right}
 use Rattle.std.specs.Cmp.Lexicographic.{bytes_decides, pointwise, nat_list_eq_equiv}
@@ -69,38 +69,6 @@ pub inserted : (names : List (List ℕ)) (name : List ℕ) → is_among name nam
 inserted names name fresh =
     let none : list_any (pointwise nat_eq name) names ≡ false = among_from name names ∙ fresh in
     rw none refl
-
-one_more : (a b c : Bool) → (a || (b || c)) ≡ ((a || b) || c)
-one_more true b c = refl
-one_more false b c = refl
-
-pub among_push : (name x : List ℕ) (names : List (List ℕ)) → is_among name (names ++ x ∷ []) ≡ (is_among name names || is_text x name)
-among_push name x [] = or_false (is_text x name)
-  where
-    or_false : (b : Bool) → (b || false) ≡ b
-    or_false true = refl
-    or_false false = refl
-among_push name x (n ∷ ns) = ap (λ b. is_text n name || b) (among_push name x ns) ∙ one_more (is_text n name) (is_among name ns) (is_text x name)
-
-or_again : (a b : Bool) → (b ≡ true → a ≡ true) → (a || b) ≡ a
-or_again true b h = refl
-or_again false true h = sym (h refl)
-or_again false false h = refl
-
--- what stands in a set where one more name is put in
-pub among_inserted : (name x : List ℕ) (names : List (List ℕ)) → list_any (pointwise nat_eq name) (insert_key (pointwise nat_eq) names x) ≡ (list_any (pointwise nat_eq name) names || is_text x name)
-among_inserted name x names = by_there (list_any (pointwise nat_eq x) names) refl
-  where
-    again : list_any (pointwise nat_eq x) names ≡ true → is_text x name ≡ true → list_any (pointwise nat_eq name) names ≡ true
-    again there e = subst (λ n. list_any (pointwise nat_eq n) names ≡ true) ((bytes_decides x name).0 e) there
-    by_there : (there : Bool) → list_any (pointwise nat_eq x) names ≡ there
-        → list_any (pointwise nat_eq name) (insert_key (pointwise nat_eq) names x) ≡ (list_any (pointwise nat_eq name) names || is_text x name)
-    by_there true e = rw e (sym (or_again (list_any (pointwise nat_eq name) names) (is_text x name) (again e)))
-    by_there false e = rw e (among_from name (names ++ x ∷ []) ∙ among_push name x names ∙ ap (λ b. b || is_text x name) (sym (among_from name names)))
-
--- one more name is put in
-pub among_moved : (name x : List ℕ) (keys rest : List (List ℕ)) → (list_any (pointwise nat_eq name) (insert_key (pointwise nat_eq) keys x) || is_among name rest) ≡ (list_any (pointwise nat_eq name) keys || is_among name (x ∷ rest))
-among_moved name x keys rest = ap (λ b. b || is_among name rest) (among_inserted name x keys) ∙ sym (one_more (list_any (pointwise nat_eq name) keys) (is_text x name) (is_among name rest))
 
 -- a name stands among the names of a table where it stands among its entries
 pub required_among : (name : List ℕ) (required : List Requires) → list_any (λ (r : Requires). is_text r.name name) required ≡ is_among name (map (λ (r : Requires). r.name) required)

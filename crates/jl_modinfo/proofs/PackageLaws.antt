@@ -1,5 +1,5 @@
 -- Where the package ends in the name of a class.
-use Rattle.std.proofs.Common.{◌≡◌, ℕ, suc, ◌+◌, ◌<◌, ◌≤◌, List, [], ◌∷◌, length, take, slice_index, Bool, true, false, refl, ap, arith}
+use Rattle.std.proofs.Common.{◌≡◌, ℕ, ◌<◌, List, [], ◌∷◌, length, take, slice_index, Bool, true, false, refl, ap, arith}
 use Rattle.std.specs.Prelude.{IsCharBoundary, IsUtf8}
 use Rattle.std.specs.List.{list_any}
 use Rattle.std.proofs.lemmas.Bool.{eqb-true}
@@ -41,6 +41,7 @@ package_boundary name u = by_slash (list_any is_slash name) refl
     none : (n : List ℕ) → list_any is_slash n ≡ false → package_of n ≡ []
     none [] e = refl
     none (b ∷ bs) e = rw (neither (is_slash b) (list_any is_slash bs) e).1 refl
+
     by_slash : (any : Bool) → list_any is_slash name ≡ any → IsCharBoundary name (length (package_of name))
     by_slash true e = let h = slash_behind name e in (omega (arith, h.0), λ l wide. absurd (omega (arith, h.1)))
     by_slash false e = rw (none name e) (IsCharBoundary-start name u)

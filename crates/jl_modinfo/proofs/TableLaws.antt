@@ -2,7 +2,7 @@
 use Rattle.std.proofs.Common.{◌≡◌, ℕ, zero, suc, ◌+◌, ◌<◌, ◌≤◌, List, [], ◌∷◌, ◌++◌, length, map, Result, Ok, refl, sym, ap, ◌∙◌, subst, arith, append_assoc}
 use Rattle.std.specs.Prelude.{Contains}
 use Rattle.std.specs.List.{flat_map}
-use Rattle.std.proofs.lemmas.List.{map_push, map-append, append-nil, length-append}
+use Rattle.std.proofs.lemmas.List.{map_push, map-append, append-nil}
 use Rattle.jl_logic.specs.Lists.{AreDistinct}
 use Rattle.jl_reading.specs.Reading.{◌>>=◌, Stands, IsBytes, number_at, each_at, two}
 use Rattle.jl_reading.proofs.Steps.{bind_ok, ok_is}
@@ -95,16 +95,18 @@ pub record Table {A B : Type 0} (bytes : List ℕ) (row_bytes : A → List ℕ) 
 pub rows_counted : {A B F : Type 0} (bytes : List ℕ) (row_bytes : A → List ℕ) (R : A → B → Type 0) (key : B → List ℕ) (one : List B → ℕ → Result (B × ℕ) F)
     → EntryStands bytes row_bytes R key one → (at n next : ℕ) (x : List B × ℕ) → Number 2 bytes at n next → each_at one [] n next ≡ Ok x → (t : Table bytes row_bytes R key at x) × (length t.rows ≡ n)
 rows_counted bytes row_bytes R key one law at n next x number e =
-    let t = rows_stand bytes row_bytes R key one law [] n next x number.stands.within e in
-    (record {
-      rows = t.rows;
-      table = record {
-        few = subst (λ k. k < 65536) (sym t.count) number.small;
-        each = subst (λ es. Match R t.rows es) (sym t.whole) t.each;
-        distinct = t.distinct tt;
-      };
-      stands = join (known (length t.rows) (sym t.count) number) t.stands;
-    }, t.count)
+    let t = rows_stand bytes row_bytes R key one law [] n next x number.stands.within e in (
+      record {
+        rows = t.rows;
+        table = record {
+          few = subst (λ k. k < 65536) (sym t.count) number.small;
+          each = subst (λ es. Match R t.rows es) (sym t.whole) t.each;
+          distinct = t.distinct tt;
+        };
+        stands = join (known (length t.rows) (sym t.count) number) t.stands;
+      },
+      t.count,
+    )
 
 pub table_stands : {A B F : Type 0} (short : ℕ → F) (bytes : List ℕ) (row_bytes : A → List ℕ) (R : A → B → Type 0) (key : B → List ℕ) (one : List B → ℕ → Result (B × ℕ) F)
     → EntryStands bytes row_bytes R key one → (at : ℕ) (x : List B × ℕ) → IsBytes bytes

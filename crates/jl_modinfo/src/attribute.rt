@@ -152,11 +152,7 @@ fn first_main(
 
 /// The attributes are as before where one of another name is passed over.
 #[tactic(auto, unfolding(crate::specs::Reading::passed_over))]
-fn passed_over(
-    bytes: &[u8],
-    done: Attributes,
-    at: usize,
-) -> Result<(Attributes, usize), InfoFault>
+fn passed_over(bytes: &[u8], done: Attributes, at: usize) -> Result<(Attributes, usize), InfoFault>
     requires { at ≤ length bytes.now }
     ensures exact { Gives told (λ x. x) result (reading.passed_over bytes.now done at) }
     ensures within { IfOk result (λ x. x.1 ≤ length bytes.now) }
@@ -228,7 +224,9 @@ fn with_main(
     let (start, end) = content(bytes, at)?;
     let main = main_of(pool, &bytes[..end], start)?;
     let Attributes {
-        module, packages, ..
+        module,
+        packages,
+        ..
     } = done;
     let read = Attributes {
         module,

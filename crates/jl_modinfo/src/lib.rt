@@ -17,3 +17,5 @@ mod table;
 pub use fault::InfoFault;
 pub use reading::read_info;
 
+#[cfg(test)]
+mod tests;

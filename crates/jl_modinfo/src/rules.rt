@@ -130,11 +130,7 @@ fn add_implementing(
     Ok(())
 }
 
-fn add_packages(
-    alloc: Global,
-    named: &mut Items<Name>,
-    classes: &[Name],
-) -> Result<(), InfoFault>
+fn add_packages(alloc: Global, named: &mut Items<Name>, classes: &[Name]) -> Result<(), InfoFault>
     ensures ok { OnOk result (named.new ≡ named.old ++ map package_in classes.now) }
     ensures err { IfErr result (λ e. e ≡ NoMemory) }
 {
