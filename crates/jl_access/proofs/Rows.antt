@@ -1,5 +1,5 @@
 -- Worked rows of the definitions.
-use Rattle.std.proofs.Common.{◌≡◌, ℕ, List, [], ◌∷◌, Bool, true, false, Option, Some, None, refl}
+use Rattle.std.proofs.Common.{◌≡◌, ℕ, List, [], ◌∷◌, Bool, true, false, Some, None, refl}
 use Rattle.jl_logic.specs.Counts.{last_count}
 use Rattle.jl_access.specs.declared.report.Key.{Key}
 use Rattle.jl_access.specs.declared.report.NoteKind.TheVariants as kinds
@@ -111,7 +111,7 @@ line m v first count = record { key = key m v; first = first; count = count }
 
 -- five notes in three lines
 five_notes : lines_of (note 1 Granted 4 ∷ note 3 Granted 5 ∷ note 1 Granted 7 ∷ note 1 (Denied rules.NotRead) 8 ∷ note 1 Granted 9 ∷ []) ≡ line 1 Granted 4 3 ∷ line 3 Granted 5 1 ∷ line 1 (Denied rules.NotRead) 8 1 ∷ []
-unfolding lines_of firsts note line key
+unfolding firsts note line key
 five_notes = refl
 
 -- a count at its end stands still

@@ -179,50 +179,67 @@ fn is_judged(facts: &Facts, from: &Place, to: &Place, denied: &[Option<Rule>; 6]
     found == *denied
 }
 
+fn placed(
+    alloc: Global,
+    is_open: bool,
+    exports: Option<Reached>,
+    opens: Option<Reached>,
+) -> Result<Facts, Fail>
+    ensures { IfOk result (λ facts. length facts.modules ≡ 3) }
+{
+    let mut facts = modules(alloc, is_open)?;
+    place_one(alloc, &mut facts, false, exports)?;
+    place_one(alloc, &mut facts, true, opens)?;
+    Ok(facts)
+}
+
+/// Whether the verdicts are those to a module that does not read, and then to one that does.
+fn is_denied(facts: &mut Facts, from: &Place, to: &Place, denied: Denied) -> Result<bool, Fail>
+    requires { length facts.old.modules ≡ 3 }
+{
+    let before = is_judged(facts, from, to, &unread(denied));
+    facts.add_reads(CALLER, OWNER)?;
+    Ok(before && is_judged(facts, from, to, &denied))
+}
+
 #[test]
 fn verdicts_between_modules(rt: HostRuntime) -> Result<(), Fail> {
     let alloc = rt.alloc();
     let from = class_in(alloc, CALLER, 1, "p")?;
     let to = class_in(alloc, OWNER, 1, "q")?;
     for (is_open, exports, opens, denied) in table() {
-        let mut facts = modules(alloc, is_open)?;
-        place_one(alloc, &mut facts, false, exports)?;
-        place_one(alloc, &mut facts, true, opens)?;
-        let before = is_judged(&facts, &from, &to, &unread(denied));
-        facts.add_reads(CALLER, OWNER)?;
-        assert!(rt; before && is_judged(&facts, &from, &to, &denied));
+        let mut facts = placed(alloc, is_open, exports, opens)?;
+        assert!(rt; is_denied(&mut facts, &from, &to, denied)?);
     }
     Ok(())
 }
 
 /// Who may use a class of module 1 from it: whether it is public, the loader and the package of the caller, and
-/// whether it is denied.
-const WITHIN: [(bool, u32, &str, bool); 5] = [
-    (true, 1, "p", false),
-    (true, 2, "o", false),
-    (false, 1, "p", false),
-    (false, 2, "p", true),
-    (false, 1, "o", true),
+/// the rule that denies it.
+const WITHIN: [(bool, u32, &str, Option<Rule>); 5] = [
+    (true, 1, "p", None),
+    (true, 2, "o", None),
+    (false, 1, "p", None),
+    (false, 2, "p", Some(Rule::ClassNotPublic)),
+    (false, 1, "o", Some(Rule::ClassNotPublic)),
 ];
+
+fn is_within(facts: &Facts, from: &Place, to: &Place, public: bool, rule: Option<Rule>) -> bool {
+    let shown = member(Access::Public);
+    let hidden = member(Access::Private);
+    denial(facts.class_verdict(from, to, public)) == rule
+        && denial(facts.reflect_verdict(from, to, public, &shown)) == rule
+        && denial(facts.deep_verdict(from, to, public, &hidden)) == None
+}
 
 #[test]
 fn verdicts_within_a_module(rt: HostRuntime) -> Result<(), Fail> {
     let alloc = rt.alloc();
     let facts = modules(alloc, false)?;
     let to = class_in(alloc, CALLER, 1, "p")?;
-    let hidden = member(Access::Private);
-    for (public, loader, package, is_denied) in WITHIN {
+    for (public, loader, package, rule) in WITHIN {
         let from = class_in(alloc, CALLER, loader, package)?;
-        let rule = if is_denied {
-            Some(Rule::ClassNotPublic)
-        } else {
-            None
-        };
-        let of_class = denial(facts.class_verdict(&from, &to, public)) == rule;
-        let shown = member(Access::Public);
-        let reflected = denial(facts.reflect_verdict(&from, &to, public, &shown)) == rule;
-        let deep = facts.deep_verdict(&from, &to, public, &hidden) == Verdict::Granted;
-        assert!(rt; of_class && reflected && deep);
+        assert!(rt; is_within(&facts, &from, &to, public, rule));
     }
     Ok(())
 }
@@ -322,14 +339,32 @@ fn are_answers(facts: &Facts) -> bool {
         ]
 }
 
+/// Adds that module 2 exports package q to module 1, or opens it to all.
+fn add_package(facts: &mut Facts, is_opened: bool) -> Result<(), Fail>
+    requires { length facts.old.modules ≡ 3 }
+    ensures { OnOk result (length facts.new.modules ≡ 3) }
+{
+    if !facts.has_package(OWNER, b"q") {
+        return Ok(());
+    }
+    if is_opened {
+        facts.add_opens(OWNER, b"q", None)?;
+    } else {
+        facts.add_exports(OWNER, b"q", Some(CALLER))?;
+    }
+    Ok(())
+}
+
+fn is_exported(facts: &Facts, to: ModuleId) -> bool {
+    facts.exported(OWNER, b"q", Some(to))
+}
+
 #[test]
 fn added_statements(rt: HostRuntime) -> Result<(), Fail> {
     let mut facts = modules(rt.alloc(), false)?;
-    assert!(rt; facts.has_package(OWNER, b"q"));
-    facts.add_exports(OWNER, b"q", Some(CALLER))?;
-    let exported = facts.exported(OWNER, b"q", Some(CALLER));
-    assert!(rt; exported && !facts.exported(OWNER, b"q", Some(OTHER)));
-    facts.add_opens(OWNER, b"q", None)?;
+    add_package(&mut facts, false)?;
+    assert!(rt; is_exported(&facts, CALLER) && !is_exported(&facts, OTHER));
+    add_package(&mut facts, true)?;
     facts.add_uses(CALLER, b"s/S")?;
     facts.add_reads(CALLER, OWNER)?;
     assert!(rt; are_answers(&facts));
