@@ -1,3 +1,4 @@
 pub mod TextLaws
 pub mod TextLoop
 pub mod TextClauses
+pub mod Utf16Laws

@@ -1,1 +1,3 @@
+pub mod Names
 pub mod Text
+pub mod Utf16

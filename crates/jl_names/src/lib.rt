@@ -4,10 +4,14 @@
 mod fault;
 mod text;
 mod units;
+mod utf16;
 
 pub use fault::{CopyEnd, TextFault};
 pub use text::{is_paired, plain_text, units_of};
 pub use units::Units;
+pub use utf16::utf16_of;
 
 #[cfg(test)]
 mod tests;
+#[cfg(test)]
+mod utf16_tests;
