@@ -2,3 +2,5 @@ pub mod Contents
 pub mod Entries
 mod Rows
 pub mod Whole
+pub mod BuilderLaws
+pub mod PoolLaws

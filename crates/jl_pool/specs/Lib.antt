@@ -1,3 +1,5 @@
+pub mod Builder
+pub mod Content
 pub mod Pool
 pub mod Reading
 pub mod Spelling

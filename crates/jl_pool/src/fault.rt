@@ -1,7 +1,8 @@
-//! Why a pool was not read.
+//! Why a pool was not read or written.
 
 ghost use Rattle.std.specs.Prelude.{◌≡◌};
 ghost use Rattle.jl_pool.specs.declared.fault.PoolFault.TheVariants.{NoMemory};
+ghost use Rattle.jl_pool.specs.declared.fault.PoolWriteFault.TheVariants as writes;
 
 use jl_reading::Fault;
 use std::alloc::{AllocError, AllocFailed};
@@ -41,5 +42,28 @@ impl<T: Drop> From<AllocFailed<T>> for PoolFault {
 
     fn from(_e: AllocFailed<T>) -> PoolFault {
         PoolFault::NoMemory
+    }
+}
+
+/// Why a pool was not written.
+#[derive(Clone, Copy, Debug, PartialEq, Eq)]
+pub enum PoolWriteFault {
+    /// There was no memory for the bytes.
+    NoMemory,
+}
+
+impl From<AllocError> for PoolWriteFault {
+    ghost from_gives = { λ _ e. e ≡ writes.NoMemory };
+
+    fn from(_e: AllocError) -> PoolWriteFault {
+        PoolWriteFault::NoMemory
+    }
+}
+
+impl<T: Drop> From<AllocFailed<T>> for PoolWriteFault {
+    ghost from_gives = { λ _ e. e ≡ writes.NoMemory };
+
+    fn from(_e: AllocFailed<T>) -> PoolWriteFault {
+        PoolWriteFault::NoMemory
     }
 }

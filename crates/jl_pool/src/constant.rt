@@ -1,0 +1,76 @@
+//! Constants by what they say.
+
+ghost use Rattle.std.specs.Prelude.{◌≡◌};
+ghost use Rattle.jl_pool.specs.Builder.{text_in};
+ghost use Rattle.jl_pool.specs.declared.constant.BuildEnd.TheVariants as ends;
+
+use jl_names::TextFault;
+use jl_prim::{CopyEnd, Name};
+use std::alloc::{AllocError, AllocFailed};
+
+/// A constant of a pool by its text, or by the name that it has (JVMS 4.4).
+#[derive(Debug, PartialEq, Eq, Hash, Drop)]
+pub enum Constant {
+    /// A Utf8 entry.
+    Text(Name),
+    /// A Class entry, whose name is in internal form.
+    Class(Name),
+    Module(Name),
+    Package(Name),
+}
+
+/// Why a constant was not entered, or a pool not built.
+#[derive(Clone, Copy, Debug, PartialEq, Eq)]
+pub enum BuildEnd {
+    /// The pool would have more entries than two bytes count.
+    TooMany,
+    /// There was no memory for it.
+    NoMemory,
+}
+
+impl From<AllocError> for BuildEnd {
+    ghost from_gives = { λ _ e. e ≡ ends.NoMemory };
+
+    fn from(_e: AllocError) -> BuildEnd {
+        BuildEnd::NoMemory
+    }
+}
+
+impl<T: Drop> From<AllocFailed<T>> for BuildEnd {
+    ghost from_gives = { λ _ e. e ≡ ends.NoMemory };
+
+    fn from(_e: AllocFailed<T>) -> BuildEnd {
+        BuildEnd::NoMemory
+    }
+}
+
+impl From<CopyEnd> for BuildEnd {
+    ghost from_gives = { λ _ e. e ≡ ends.NoMemory };
+
+    fn from(_e: CopyEnd) -> BuildEnd {
+        BuildEnd::NoMemory
+    }
+}
+
+impl From<TextFault> for BuildEnd {
+    ghost from_gives = { λ _ e. e ≡ ends.NoMemory };
+
+    // the text of a name is always units, so that only memory can be wanting
+    fn from(_e: TextFault) -> BuildEnd {
+        BuildEnd::NoMemory
+    }
+}
+
+impl Constant {
+    /// The text of the constant, or of its name.
+    pub fn text(&self) -> &Name
+        ensures { result.now ≡ text_in self.now }
+    {
+        match self {
+            Constant::Text(name)
+            | Constant::Class(name)
+            | Constant::Module(name)
+            | Constant::Package(name) => name,
+        }
+    }
+}
