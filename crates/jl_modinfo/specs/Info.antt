@@ -83,9 +83,9 @@ back_bytes this attributes =
 -- one of these for each of those, in order
 abbrev pub Match : {A B : Type 0} → (A → B → Type 0) → List A → List B → Type 0
 Match R [] [] = ⊤
-Match R (a ∷ as) (b ∷ bs) = R a b × Match R as bs
-Match R [] (b ∷ bs) = ⊥
-Match R (a ∷ as) [] = ⊥
+Match R (a ∷ xs) (b ∷ ys) = R a b × Match R xs ys
+Match R [] (b ∷ ys) = ⊥
+Match R (a ∷ xs) [] = ⊥
 
 -- an index of two bytes has this name
 abbrev pub Names : (List Entry → ℕ → Option (List ℕ)) → List Entry → ℕ → List ℕ → Type 0
@@ -106,7 +106,7 @@ pub record IsRequires (pool : List Entry) (r : RequiresRow) (e : Requires) : Typ
 
 pub record IsGrant (pool : List Entry) (r : GrantRow) (e : Grant) : Type 0 where
   pub fits : r.flags < 65536
-  pub named : Names package_named pool r.index e.package
+  pub named : Names package_named pool r.index e.«package»
   pub targets : List (List ℕ)
   pub to : e.to ≡ targets_of targets
   pub all : NameAll module_named pool r.targets targets
@@ -129,8 +129,8 @@ pub record IsBody (pool : List Entry) (b : Body) (d : Declaration) : Type 0 wher
   pub is_open : d.is_open ≡ is_set b.flags 0x20
   pub version : version_named pool b.version ≡ Some d.version
   pub required : IsTable (IsRequires pool) (λ (e : Requires). e.name) b.required d.required
-  pub exports : IsTable (IsGrant pool) (λ (e : Grant). e.package) b.exports d.exports
-  pub opens : IsTable (IsGrant pool) (λ (e : Grant). e.package) b.opens d.opens
+  pub exports : IsTable (IsGrant pool) (λ (e : Grant). e.«package») b.exports d.exports
+  pub opens : IsTable (IsGrant pool) (λ (e : Grant). e.«package») b.opens d.opens
   pub closed : d.is_open ≡ true → d.opens ≡ []
   pub uses : NameAll class_named pool b.uses d.uses
   pub provides : IsTable (IsProvides pool) (λ (e : Provides). e.service) b.provides d.provides

@@ -2,4 +2,5 @@ pub mod Faults
 pub mod Meaning
 pub mod Rules
 pub mod Reading
+pub mod Kinds
 pub mod Info

@@ -97,10 +97,10 @@ requires_table_at pool bytes at = do
 -- an entry of a table of exports or opens
 unfoldable pub grant_at : List ℕ → (List Entry → ℕ → Option (List ℕ)) → List Entry → List ℕ → List Grant → ℕ → Result (Grant × ℕ) InfoFault
 grant_at table named pool bytes done at = do
-  package ← new_name_at table named pool bytes (map (λ (g : Grant). g.package) done) at
-  flags ← number_at short 2 bytes package.1
+  name ← new_name_at table named pool bytes (map (λ (g : Grant). g.«package») done) at
+  flags ← number_at short 2 bytes name.1
   targets ← names_at (codes "targets") module_named pool bytes flags.1
-  Ok (record { package = package.0; to = targets_of targets.0 }, targets.1)
+  Ok (record { «package» = name.0; to = targets_of targets.0 }, targets.1)
 
 unfoldable pub grants_at : List ℕ → (List Entry → ℕ → Option (List ℕ)) → List Entry → List ℕ → ℕ → Result (List Grant × ℕ) InfoFault
 grants_at table named pool bytes at = do
@@ -185,12 +185,12 @@ once name None x = x
 once name (Some a) x = Err (faults.Repeated (codes "attributes") name)
 
 abbrev pub unread : Attributes
-unread = record { module = None; packages = None; main = None }
+unread = record { «module» = None; packages = None; main = None }
 
 unfoldable pub with_module : List Entry → List ℕ → Attributes → ℕ → Result (Attributes × ℕ) InfoFault
 with_module pool bytes done at = do
   m ← content_at (module_at pool) bytes at
-  Ok (record done { module = Some m.0 }, m.1)
+  Ok (record done { «module» = Some m.0 }, m.1)
 
 unfoldable pub with_packages : List Entry → List ℕ → Attributes → ℕ → Result (Attributes × ℕ) InfoFault
 with_packages pool bytes done at = do
@@ -213,10 +213,10 @@ unfoldable pub attribute_at : List Entry → List ℕ → Attributes → ℕ →
 attribute_at pool bytes done at = do
   i ← number_at short 2 bytes at
   name ← named_or at (text_of pool i.0)
-  if is_text name (codes "Module") then once name done.module (with_module pool bytes done i.1)
-  else if is_text name (codes "ModulePackages") then once name done.packages (with_packages pool bytes done i.1)
-  else if is_text name (codes "ModuleMainClass") then once name done.main (with_main pool bytes done i.1)
-  else passed_over bytes done i.1
+  if is_text name (codes "Module") then once name done.«module» (with_module pool bytes done i.1)
+    else if is_text name (codes "ModulePackages") then once name done.packages (with_packages pool bytes done i.1)
+    else if is_text name (codes "ModuleMainClass") then once name done.main (with_main pool bytes done i.1)
+    else passed_over bytes done i.1
 
 unfoldable pub attributes_from : ℕ → List Entry → List ℕ → Attributes → ℕ → Result (Attributes × ℕ) InfoFault
 attributes_from zero pool bytes done at = Ok (done, at)
@@ -253,7 +253,7 @@ declaration_of m packages main = record {
 -- a declaration that names a package which it has not
 abbrev pub all_there : Declaration → Option (List ℕ) → Result Declaration InfoFault
 all_there d None = Ok d
-all_there d (Some package) = Err (faults.PackageMissing package)
+all_there d (Some name) = Err (faults.PackageMissing name)
 
 -- the rules on a declaration, in order
 abbrev pub ruled : Declaration → Result Declaration InfoFault
@@ -261,7 +261,7 @@ ruled d = if keeps_base_rule d.name d.required then all_there d (missing_package
 
 -- the rules on the whole file, in order
 abbrev pub whole : List (List ℕ) → List ℕ → Attributes → ℕ → Result Declaration InfoFault
-whole found bytes read at = by read.module where
+whole found bytes read at = by read.«module» where
   by : Option Module → Result Declaration InfoFault
   by None = Err faults.NoModuleAttribute
   by (Some m) = if at == length bytes then ruled (declaration_of m (or_found found read.packages) read.main) else Err faults.Trailing

@@ -20,7 +20,7 @@ keeps_base_rule name required =
 
 -- the packages of a table of exports or opens
 abbrev pub granted : List Grant → List (List ℕ)
-granted grants = map (λ (g : Grant). g.package) grants
+granted grants = map (λ (g : Grant). g.«package») grants
 
 -- the packages of the classes that implement services
 abbrev pub implementing : List Provides → List (List ℕ)

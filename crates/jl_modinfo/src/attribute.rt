@@ -1,28 +1,38 @@
 //! The attributes of a declaration file (JVMS 4.7).
 
-ghost use Rattle.std.specs.Prelude.{◌≡◌, ◌≤◌, List, [], length, IfOk, is_some, false};
-ghost use Rattle.std.specs.Option.{option_to_list};
+ghost use Rattle.std.specs.Prelude.{◌≡◌, ◌≤◌, length, IfOk};
 ghost use Rattle.jl_logic.specs.Answers.{Gives};
-ghost use Rattle.jl_reading.specs.Reading.{each_at};
 ghost use Rattle.jl_modinfo.specs.Faults.{told};
-ghost use Rattle.jl_modinfo.specs.Reading.{content_end, module_attribute_at, attribute_at, attributes_at};
+ghost use Rattle.jl_modinfo.specs.Reading.{content_end, attribute_at, attributes_from, attributes_at, unread};
+ghost use Rattle.jl_modinfo.specs.Reading as reading;
 
 use crate::fault::{InfoFault, repeated};
+use crate::kind::Kind;
 use crate::module::{Module, module_of};
+use crate::names::{name_at, names_at};
 use jl_pool::Pool;
+use jl_prim::{Copied, Items, Name};
 use jl_reading::{is_whole, u16_at, u32_at};
 use std::alloc::Global;
 
-/// The module that the attributes declare whose count stands at a place, and the place after them.
+/// What the attributes declare that were read so far.
+#[derive(Debug, Drop)]
+pub struct Attributes {
+    pub module: Option<Module>,
+    pub packages: Option<Items<Name>>,
+    pub main: Option<Name>,
+}
+
+/// What the attributes declare whose count stands at a place, and the place after them.
 #[tactic(auto, unfolding(crate::specs::Reading::attributes_at))]
-pub fn attributes(
+pub fn attributes_of(
     alloc: Global,
     pool: &Pool,
     bytes: &[u8],
     at: usize,
-) -> Result<(Option<Module>, usize), InfoFault>
+) -> Result<(Attributes, usize), InfoFault>
     requires { at ≤ length bytes.now }
-    ensures { Gives told (λ x. (option_to_list x.0, x.1)) result (attributes_at pool.now bytes.now at) }
+    ensures { Gives told (λ x. x) result (attributes_at pool.now bytes.now at) }
 {
     let (count, at) = u16_at::<InfoFault>(bytes, at)?;
     each_attribute(alloc, pool, count, bytes, at)
@@ -34,64 +44,166 @@ fn each_attribute(
     count: u16,
     bytes: &[u8],
     at: usize,
-) -> Result<(Option<Module>, usize), InfoFault>
+) -> Result<(Attributes, usize), InfoFault>
     requires { at ≤ length bytes.now }
-    ensures { Gives told (λ x. (option_to_list x.0, x.1)) result (each_at (attribute_at pool.now bytes.now) [] count at) }
+    ensures { Gives told (λ x. x) result (attributes_from count pool.now bytes.now unread at) }
 {
-    let mut declared = None;
+    let mut done = Attributes {
+        module: None,
+        packages: None,
+        main: None,
+    };
     let mut next = at;
     for _ in 0..count {
-        let (module, after) = attribute(alloc, pool, bytes, &declared, next)?;
-        declared = Some(module);
+        let (read, after) = attribute(alloc, pool, bytes, done, next)?;
+        done = read;
         next = after;
     }
-    Ok((declared, next))
+    Ok((done, next))
 }
 
-/// The attribute at a place, behind those that were read so far. Only a Module attribute is read yet.
+/// The attribute at a place, behind those that were read so far.
 #[tactic(auto, unfolding(crate::specs::Reading::attribute_at))]
 fn attribute(
     alloc: Global,
     pool: &Pool,
     bytes: &[u8],
-    declared: &Option<Module>,
+    done: Attributes,
     at: usize,
-) -> Result<(Module, usize), InfoFault>
+) -> Result<(Attributes, usize), InfoFault>
     requires { at ≤ length bytes.now }
-    ensures exact { Gives told (λ x. x) result (attribute_at pool.now bytes.now (option_to_list declared.now) at) }
-    ensures first { IfOk result (λ _. declared.now ≡ None) }
+    ensures exact { Gives told (λ x. x) result (attribute_at pool.now bytes.now done at) }
     ensures within { IfOk result (λ x. x.1 ≤ length bytes.now) }
 {
     let (index, next) = u16_at::<InfoFault>(bytes, at)?;
     let Some(name) = pool.text(index) else {
         return Err(InfoFault::BadIndex(at));
     };
-    if name.as_str() == "Module" {
-        module_attribute(alloc, pool, bytes, declared, next)
-    } else {
-        Err(InfoFault::NotBuilt(at))
+    let name = name.as_str();
+    if name == "Module" {
+        if done.module.is_some() {
+            return repeated(alloc, "attributes", name);
+        }
+        return with_module(alloc, pool, bytes, done, next);
     }
+    if name == "ModulePackages" {
+        if done.packages.is_some() {
+            return repeated(alloc, "attributes", name);
+        }
+        return with_packages(alloc, pool, bytes, done, next);
+    }
+    if name == "ModuleMainClass" {
+        if done.main.is_some() {
+            return repeated(alloc, "attributes", name);
+        }
+        return with_main(pool, bytes, done, next);
+    }
+    let (_start, end) = content(bytes, next)?;
+    Ok((done, end))
 }
 
-#[tactic(auto, unfolding(crate::specs::Reading::module_attribute_at))]
-fn module_attribute(
+/// The content of a Module attribute.
+#[tactic(auto, unfolding(crate::specs::Reading::with_module, crate::specs::Reading::content_at))]
+fn with_module(
     alloc: Global,
     pool: &Pool,
     bytes: &[u8],
-    declared: &Option<Module>,
+    done: Attributes,
     at: usize,
-) -> Result<(Module, usize), InfoFault>
+) -> Result<(Attributes, usize), InfoFault>
     requires { at ≤ length bytes.now }
-    ensures exact { Gives told (λ x. x) result (module_attribute_at pool.now bytes.now (option_to_list declared.now) at) }
-    ensures first { IfOk result (λ _. declared.now ≡ None) }
+    ensures exact { Gives told (λ x. x) result (reading.with_module pool.now bytes.now done at) }
     ensures within { IfOk result (λ x. x.1 ≤ length bytes.now) }
 {
-    if declared.is_some() {
-        return repeated(alloc, "attributes", "Module");
-    }
     let (start, end) = content(bytes, at)?;
     let module = module_of(alloc, pool, &bytes[..end], start)?;
-    Ok((module, end))
+    let Attributes { packages, main, .. } = done;
+    let read = Attributes {
+        module: Some(module),
+        packages,
+        main,
+    };
+    Ok((read, end))
+}
+
+/// The content of a ModulePackages attribute (JVMS 4.7.26).
+#[tactic(auto, unfolding(crate::specs::Reading::with_packages, crate::specs::Reading::content_at))]
+fn with_packages(
+    alloc: Global,
+    pool: &Pool,
+    bytes: &[u8],
+    done: Attributes,
+    at: usize,
+) -> Result<(Attributes, usize), InfoFault>
+    requires { at ≤ length bytes.now }
+    ensures exact { Gives told (λ x. x) result (reading.with_packages pool.now bytes.now done at) }
+    ensures within { IfOk result (λ x. x.1 ≤ length bytes.now) }
+{
+    let (start, end) = content(bytes, at)?;
+    let packages = packages_of(alloc, pool, &bytes[..end], start)?;
+    let Attributes { module, main, .. } = done;
+    let read = Attributes {
+        module,
+        packages: Some(packages),
+        main,
+    };
+    Ok((read, end))
+}
+
+/// The content of a ModuleMainClass attribute (JVMS 4.7.27).
+#[tactic(auto, unfolding(crate::specs::Reading::with_main, crate::specs::Reading::content_at))]
+fn with_main(
+    pool: &Pool,
+    bytes: &[u8],
+    done: Attributes,
+    at: usize,
+) -> Result<(Attributes, usize), InfoFault>
+    requires { at ≤ length bytes.now }
+    ensures exact { Gives told (λ x. x) result (reading.with_main pool.now bytes.now done at) }
+    ensures within { IfOk result (λ x. x.1 ≤ length bytes.now) }
+{
+    let (start, end) = content(bytes, at)?;
+    let main = main_of(pool, &bytes[..end], start)?;
+    let Attributes {
+        module, packages, ..
+    } = done;
+    let read = Attributes {
+        module,
+        packages,
+        main: Some(main),
+    };
+    Ok((read, end))
+}
+
+/// The packages that the bytes from a place on list, all of them.
+#[tactic(auto, unfolding(crate::specs::Reading::packages_at))]
+fn packages_of(
+    alloc: Global,
+    pool: &Pool,
+    bytes: &[u8],
+    at: usize,
+) -> Result<Items<Name>, InfoFault>
+    requires { at ≤ length bytes.now }
+    ensures { Gives told (λ x. x) result (reading.packages_at pool.now bytes.now at) }
+{
+    let (packages, next) = names_at(alloc, pool, "packages", Kind::Package, bytes, at)?;
+    if next != bytes.len() {
+        return Err(InfoFault::Trailing);
+    }
+    Ok(packages)
+}
+
+/// The class that the bytes from a place on name, all of them.
+#[tactic(auto, unfolding(crate::specs::Reading::main_at))]
+fn main_of(pool: &Pool, bytes: &[u8], at: usize) -> Result<Name, InfoFault>
+    requires { at ≤ length bytes.now }
+    ensures { Gives told (λ x. x) result (reading.main_at pool.now bytes.now at) }
+{
+    let (name, next) = name_at(pool, Kind::Class, bytes, at)?;
+    if next != bytes.len() {
+        return Err(InfoFault::Trailing);
+    }
+    Ok(name.copy()?)
 }
 
 /// Where the content of an attribute begins and ends whose length stands at a place.

@@ -36,8 +36,6 @@ pub enum InfoFault {
     PackageMissing(Name),
     /// Bytes follow the file or the content of an attribute.
     Trailing,
-    /// At this place stands an attribute or a table that is not read yet.
-    NotBuilt(usize),
     /// There was no memory for the declaration.
     NoMemory,
 }

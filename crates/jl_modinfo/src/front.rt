@@ -2,12 +2,12 @@
 
 ghost use Rattle.std.specs.Prelude.{◌≡◌, ◌≤◌, length, IfOk};
 ghost use Rattle.jl_logic.specs.Answers.{Gives};
-ghost use Rattle.jl_modinfo.specs.Meaning.{class_named, is_module_info as names_module_info};
+ghost use Rattle.jl_modinfo.specs.Meaning.{class_text as text_of_class, is_module_info as names_module_info};
 ghost use Rattle.jl_modinfo.specs.Reading.{front_at, zero_at, this_at, empty_class_at};
 ghost use Rattle.jl_modinfo.specs.Faults.{told};
 
 use crate::fault::{InfoFault, not_module};
-use crate::meaning::class_name;
+use crate::meaning::class_text;
 use jl_pool::Pool;
 use jl_reading::{u16_at, u32_at};
 use std::alloc::Global;
@@ -82,9 +82,9 @@ fn zero(alloc: Global, field: &str, bytes: &[u8], at: usize) -> Result<usize, In
 }
 
 fn is_module_info(pool: &Pool, index: u16) -> bool
-    ensures { result ≡ names_module_info (class_named pool.now index) }
+    ensures { result ≡ names_module_info (text_of_class pool.now index) }
 {
-    match class_name(pool, index) {
+    match class_text(pool, index) {
         Some(name) => name.as_str() == "module-info",
         None => false,
     }

@@ -1,16 +1,33 @@
-//! What indices and flags mean, and the rule on `java.base`.
+//! What indices and flags mean (JVMS 4.7.25, 4.7.26, 4.7.27).
 
 ghost use Rattle.std.specs.Prelude.{◌≡◌};
 ghost use Rattle.std.specs.Option.{option_copied};
-ghost use Rattle.jl_modinfo.specs.Meaning.{module_named, class_named, is_set, requires_base, keeps_base_rule, is_required as is_required_by};
+ghost use Rattle.jl_modinfo.specs.Kinds.{naming};
+ghost use Rattle.jl_modinfo.specs.Meaning.{module_named, package_named, class_named, is_set};
+ghost use Rattle.jl_modinfo.specs.Meaning as meaning;
 
+use crate::kind::Kind;
 use bitflags::Flags;
+use crate::stand_in::is_class_name;
 use jl_names::is_paired;
 use jl_pool::Pool;
-use jl_prim::{AccessFlags, Name, Requires, is_module_name};
+use jl_prim::{AccessFlags, Name, is_module_name};
+
+/// The name of a kind that an index has.
+pub fn name_of(pool: &Pool, kind: Kind, i: u16) -> Option<&Name>
+    ensures { option_copied result ≡ naming kind pool.now i }
+{
+    match kind {
+        Kind::Module => module_name(pool, i),
+        Kind::Package => package_name(pool, i),
+        Kind::Class => class_name(pool, i),
+        Kind::Opened(true) => None,
+        Kind::Opened(false) => package_name(pool, i),
+    }
+}
 
 /// The name that a Module index has.
-pub fn module_name(pool: &Pool, i: u16) -> Option<&Name>
+fn module_name(pool: &Pool, i: u16) -> Option<&Name>
     ensures { option_copied result ≡ module_named pool.now i }
 {
     let name = pool.module(i)?;
@@ -23,9 +40,37 @@ pub fn module_name(pool: &Pool, i: u16) -> Option<&Name>
     }
 }
 
-/// The name of the class that a Class index has.
-pub fn class_name(pool: &Pool, i: u16) -> Option<&Name>
+/// The name that a Package index has.
+fn package_name(pool: &Pool, i: u16) -> Option<&Name>
+    ensures { option_copied result ≡ package_named pool.now i }
+{
+    let name = pool.package(i)?;
+    let units = pool.utf8(name)?;
+    let text = pool.text(name)?;
+    if is_paired(units.as_slice()) && is_class_name(text.as_bytes()) {
+        Some(text)
+    } else {
+        None
+    }
+}
+
+/// The name that a Class index has.
+fn class_name(pool: &Pool, i: u16) -> Option<&Name>
     ensures { option_copied result ≡ class_named pool.now i }
+{
+    let name = pool.class(i)?;
+    let units = pool.utf8(name)?;
+    let text = pool.text(name)?;
+    if is_paired(units.as_slice()) && is_class_name(text.as_bytes()) {
+        Some(text)
+    } else {
+        None
+    }
+}
+
+/// The text of the name of a Class index, whatever it is.
+pub fn class_text(pool: &Pool, i: u16) -> Option<&Name>
+    ensures { option_copied result ≡ meaning.class_text pool.now i }
 {
     pool.text(pool.class(i)?)
 }
@@ -49,22 +94,4 @@ pub fn is_static(flags: u16) -> bool
     ensures { result ≡ is_set flags 0x40 }
 {
     AccessFlags::from_bits_retain(flags).contains(AccessFlags::STATIC_PHASE)
-}
-
-/// Whether one of the entries is for the module with this name.
-pub fn is_required(required: &[Requires], name: &str) -> bool
-    ensures { result ≡ is_required_by name.now required.now }
-{
-    required.iter().any(|entry| entry.name.as_str() == name)
-}
-
-/// Whether `java.base` requires nothing, or another module requires `java.base` (JLS 7.7.1).
-pub fn is_base_right(name: &str, required: &[Requires]) -> bool
-    ensures { result ≡ keeps_base_rule name.now required.now }
-{
-    if name == "java.base" {
-        required.is_empty()
-    } else {
-        is_required(required, "java.base")
-    }
 }

@@ -1,21 +1,21 @@
 //! Reading a declaration file.
 
 ghost use Rattle.std.specs.Prelude.{◌≡◌, ◌≤◌, List, ℕ, length, IfOk, Ok};
-ghost use Rattle.std.specs.Option.{option_to_list};
 ghost use Rattle.jl_logic.specs.Answers.{Gives};
 ghost use Rattle.jl_pool.specs.Reading.{pool_at};
 ghost use Rattle.jl_prim.specs.declared.declaration.Declaration.{Declaration};
 ghost use Rattle.jl_modinfo.specs.Info.{IsInfo};
 ghost use Rattle.jl_modinfo.specs.Faults.{told, pool_or};
-ghost use Rattle.jl_modinfo.specs.Reading.{info_of, declaration_of, whole as whole_file};
+ghost use Rattle.jl_modinfo.specs.Reading.{info_of, declaration_of, or_found, whole as whole_file};
 
-use crate::attribute::attributes;
+use crate::attribute::{Attributes, attributes_of};
 use crate::fault::InfoFault;
 use crate::front::{empty_class, front};
-use crate::meaning::is_base_right;
 use crate::module::Module;
+use crate::names::copied_all;
+use crate::rules::ruled;
 use jl_pool::{Pool, read_pool};
-use jl_prim::{Copied, Declaration, Items, Name};
+use jl_prim::{Declaration, Items, Name};
 use std::alloc::Global;
 
 /// The declaration that a `module-info.class` file has (JVMS 4.1, 4.7.25). `found` is the packages to take
@@ -37,8 +37,8 @@ fn info(alloc: Global, bytes: &[u8], found: &[Name]) -> Result<Declaration, Info
     let at = front(bytes)?;
     let (pool, at) = pool(alloc, bytes, at)?;
     let at = empty_class(alloc, &pool, bytes, at)?;
-    let (declared, at) = attributes(alloc, &pool, bytes, at)?;
-    whole(alloc, found, bytes, declared, at)
+    let (read, at) = attributes_of(alloc, &pool, bytes, at)?;
+    whole(alloc, found, bytes, read, at)
 }
 
 fn pool(alloc: Global, bytes: &[u8], at: usize) -> Result<(Pool, usize), InfoFault>
@@ -49,51 +49,58 @@ fn pool(alloc: Global, bytes: &[u8], at: usize) -> Result<(Pool, usize), InfoFau
     Ok(read_pool(alloc, bytes, at)?)
 }
 
-/// The declaration of a module, where the whole file keeps its rules.
+/// The declaration that the attributes make, where the whole file keeps its rules.
 fn whole(
     alloc: Global,
     found: &[Name],
     bytes: &[u8],
-    declared: Option<Module>,
+    read: Attributes,
     at: usize,
 ) -> Result<Declaration, InfoFault>
-    ensures { Gives told (λ d. d) result (whole_file found.now bytes.now (option_to_list declared, at)) }
+    ensures { Gives told (λ d. d) result (whole_file found.now bytes.now read at) }
 {
-    let Some(declared) = declared else {
+    let Attributes {
+        module,
+        packages,
+        main,
+    } = read;
+    let Some(module) = module else {
         return Err(InfoFault::NoModuleAttribute);
     };
     if at != bytes.len() {
         return Err(InfoFault::Trailing);
     }
-    if !is_base_right(declared.name.as_str(), declared.required.as_slice()) {
-        return Err(InfoFault::BaseRule);
-    }
-    declaration(alloc, declared, found)
+    let packages = packages_or(alloc, packages, found)?;
+    ruled(alloc, declaration(module, packages, main))
 }
 
-fn declaration(alloc: Global, declared: Module, found: &[Name]) -> Result<Declaration, InfoFault>
-    ensures { Gives told (λ d. d) result (Ok (declaration_of declared found.now)) }
+/// The packages of the file, or those that were found.
+fn packages_or(
+    alloc: Global,
+    packages: Option<Items<Name>>,
+    found: &[Name],
+) -> Result<Items<Name>, InfoFault>
+    ensures { Gives told (λ it. it) result (Ok (or_found found.now packages)) }
 {
-    Ok(Declaration {
+    match packages {
+        Some(packages) => Ok(packages),
+        None => copied_all(alloc, found),
+    }
+}
+
+fn declaration(declared: Module, packages: Items<Name>, main: Option<Name>) -> Declaration
+    ensures { result ≡ declaration_of declared packages main }
+{
+    Declaration {
         name: declared.name,
         is_open: declared.is_open,
         version: declared.version,
         required: declared.required,
-        exports: Items::new(alloc),
-        opens: Items::new(alloc),
-        uses: Items::new(alloc),
-        provides: Items::new(alloc),
-        packages: copied(alloc, found)?,
-        main: None,
-    })
-}
-
-fn copied(alloc: Global, names: &[Name]) -> Result<Items<Name>, InfoFault>
-    ensures { Gives told (λ it. it) result (Ok names.now) }
-{
-    let mut copies = Items::new(alloc);
-    for name in names {
-        copies.push(name.copy()?)?;
+        exports: declared.exports,
+        opens: declared.opens,
+        uses: declared.uses,
+        provides: declared.provides,
+        packages,
+        main,
     }
-    Ok(copies)
 }

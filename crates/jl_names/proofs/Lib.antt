@@ -2,3 +2,4 @@ pub mod TextLaws
 pub mod TextLoop
 pub mod TextClauses
 pub mod Utf16Laws
+pub mod NameLaws

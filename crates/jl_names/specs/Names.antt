@@ -23,6 +23,10 @@ unfoldable pub parts : List ℕ → List (List ℕ)
 parts [] = [] ∷ []
 parts (b ∷ bs) = if is_slash b then [] ∷ parts bs else with_first b (parts bs)
 
+-- no part goes on with the byte, where it has begun or not
+abbrev pub stops : ℕ → Bool → Bool
+stops b begun = is_reserved b || (is_slash b && not begun)
+
 abbrev pub is_part : List ℕ → Bool
 is_part p = not (is_empty p) && list_all (λ b. not (is_reserved b)) p
 
@@ -30,9 +34,13 @@ is_part p = not (is_empty p) && list_all (λ b. not (is_reserved b)) p
 abbrev pub names_a_class : List ℕ → Bool
 names_a_class name = list_all is_part (parts name)
 
+-- none of . ; [ /
+abbrev pub is_plain : ℕ → Bool
+is_plain b = not (is_reserved b) && not (is_slash b)
+
 -- an unqualified name (JVMS 4.2.2)
 abbrev pub is_unqualified : List ℕ → Bool
-is_unqualified name = not (is_empty name) && list_all (λ b. not (is_reserved b) && not (is_slash b)) name
+is_unqualified name = not (is_empty name) && list_all is_plain name
 
 abbrev pub names_a_field : List ℕ → Bool
 names_a_field = is_unqualified
