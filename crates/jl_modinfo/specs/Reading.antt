@@ -145,16 +145,19 @@ module_at pool bytes at = do
   opens ← grants_at (codes "opens") (opened_named (is_set flags.0 0x20)) pool bytes exports.1
   uses ← names_at (codes "uses") class_named pool bytes opens.1
   provides ← provides_table_at pool bytes uses.1
-  ended bytes (record {
-    name = name.0;
-    is_open = is_set flags.0 0x20;
-    version = version.0;
-    required = required.0;
-    exports = exports.0;
-    opens = opens.0;
-    uses = uses.0;
-    provides = provides.0;
-  }, provides.1)
+  ended bytes (
+    record {
+      name = name.0;
+      is_open = is_set flags.0 0x20;
+      version = version.0;
+      required = required.0;
+      exports = exports.0;
+      opens = opens.0;
+      uses = uses.0;
+      provides = provides.0;
+    },
+    provides.1,
+  )
 
 -- a ModulePackages attribute
 unfoldable pub packages_at : List Entry → List ℕ → ℕ → Result (List (List ℕ)) InfoFault
@@ -214,9 +217,9 @@ attribute_at pool bytes done at = do
   i ← number_at short 2 bytes at
   name ← named_or at (text_of pool i.0)
   if is_text name (codes "Module") then once name done.«module» (with_module pool bytes done i.1)
-    else if is_text name (codes "ModulePackages") then once name done.packages (with_packages pool bytes done i.1)
-    else if is_text name (codes "ModuleMainClass") then once name done.main (with_main pool bytes done i.1)
-    else passed_over bytes done i.1
+      else if is_text name (codes "ModulePackages") then once name done.packages (with_packages pool bytes done i.1)
+      else if is_text name (codes "ModuleMainClass") then once name done.main (with_main pool bytes done i.1)
+      else passed_over bytes done i.1
 
 unfoldable pub attributes_from : ℕ → List Entry → List ℕ → Attributes → ℕ → Result (Attributes × ℕ) InfoFault
 attributes_from zero pool bytes done at = Ok (done, at)

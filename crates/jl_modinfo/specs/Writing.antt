@@ -146,7 +146,7 @@ AreClasses names = AllByRecursion (λ n. IsTrue (names_a_class n)) names
 
 -- a package is granted to all, or to some modules, each once
 pub record IsFineGrant (g : Grant) : Type 0 where
-  pub package : IsTrue (names_a_class g.package)
+  pub granted : IsTrue (names_a_class g.package)
   pub modules : AreModules (targets g)
   pub distinct : AreDistinct (targets g)
   pub some : g.to ≡ Some [] → ⊥

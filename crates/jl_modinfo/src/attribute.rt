@@ -165,7 +165,9 @@ fn with_main(
     let (start, end) = content(bytes, at)?;
     let main = main_of(pool, &bytes[..end], start)?;
     let Attributes {
-        module, packages, ..
+        module,
+        packages,
+        ..
     } = done;
     let read = Attributes {
         module,

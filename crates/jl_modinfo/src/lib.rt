@@ -2,12 +2,15 @@
 #![tactic(auto)]
 
 mod attribute;
+mod entering;
 mod fault;
 mod front;
 mod grants;
 mod kind;
+mod limits;
 mod meaning;
 mod module;
+mod named;
 mod names;
 mod provides;
 mod reading;
@@ -15,6 +18,5 @@ mod rules;
 mod stand_in;
 mod table;
 
-pub use fault::InfoFault;
+pub use fault::{InfoFault, InfoWriteFault};
 pub use reading::read_info;
-

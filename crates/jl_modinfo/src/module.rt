@@ -116,7 +116,15 @@ fn requires_entry(
     ensures fresh { IfOk result (λ x. is_among x.0.name (map (λ (r : Requires). r.name) done.now) ≡ false) }
     ensures within { IfOk result (λ x. x.1 ≤ length bytes.now) }
 {
-    let (name, at) = new_name_at(alloc, pool, "requires", Kind::Module, bytes, done.names(), at)?;
+    let (name, at) = new_name_at(
+        alloc,
+        pool,
+        "requires",
+        Kind::Module,
+        bytes,
+        done.names(),
+        at,
+    )?;
     let (flags, at) = u16_at::<InfoFault>(bytes, at)?;
     let (_version, at) = version_at(pool, bytes, at)?;
     let entry = Requires {

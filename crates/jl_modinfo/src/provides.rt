@@ -69,7 +69,15 @@ fn provides(
     ensures fresh { IfOk result (λ x. is_among x.0.service (map (λ (p : Provides). p.service) done.now) ≡ false) }
     ensures within { IfOk result (λ x. x.1 ≤ length bytes.now) }
 {
-    let (service, at) = new_name_at(alloc, pool, "provides", Kind::Class, bytes, done.names(), at)?;
+    let (service, at) = new_name_at(
+        alloc,
+        pool,
+        "provides",
+        Kind::Class,
+        bytes,
+        done.names(),
+        at,
+    )?;
     let (implementations, at) = implementations_at(alloc, pool, bytes, at)?;
     let entry = Provides {
         service: service.copy()?,
@@ -94,5 +102,13 @@ fn implementations_at(
     if count == 0 {
         return Err(InfoFault::BadIndex(at));
     }
-    each_name(alloc, pool, "implementations", Kind::Class, count, bytes, next)
+    each_name(
+        alloc,
+        pool,
+        "implementations",
+        Kind::Class,
+        count,
+        bytes,
+        next,
+    )
 }

@@ -13,8 +13,8 @@ ghost use Rattle.jl_modinfo.specs.Rules.{granted, implementing};
 ghost use Rattle.jl_modinfo.specs.Rules as rules;
 
 use crate::fault::InfoFault;
-use indexmap::IndexSet;
 use crate::stand_in::package_of;
+use indexmap::IndexSet;
 use jl_prim::{Copied, CopyEnd, Declaration, Grant, Items, Name, Provides, Requires};
 use std::alloc::Global;
 
@@ -109,11 +109,7 @@ fn add_implementing(
     Ok(())
 }
 
-fn add_packages(
-    alloc: Global,
-    named: &mut Items<Name>,
-    classes: &[Name],
-) -> Result<(), InfoFault>
+fn add_packages(alloc: Global, named: &mut Items<Name>, classes: &[Name]) -> Result<(), InfoFault>
     ensures ok { OnOk result (named.new ≡ named.old ++ map package_in classes.now) }
     ensures err { IfErr result (λ e. e ≡ InfoFault.NoMemory) }
 {

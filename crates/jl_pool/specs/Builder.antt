@@ -51,6 +51,10 @@ fitting cs = if nat_lt 65534 (length cs) then Err ends.TooMany else Ok cs
 abbrev pub index_of : List Constant → Constant → ℕ
 index_of cs c = position_or_len (is_same c) cs + 1
 
+-- the same, and 0 where the constant is not there
+abbrev pub index_in : List Constant → Constant → ℕ
+index_in cs c = if has cs c then index_of cs c else 0
+
 abbrev pub entry_of : List Constant → Constant → Entry
 entry_of cs (constants.Text t) = entries.Utf8 (utf16 t)
 entry_of cs (constants.Class t) = entries.Class (index_of cs (constants.Text t))

@@ -4,7 +4,7 @@ ghost use Rattle.std.specs.Prelude.{◌≡◌, ◌<◌, [], ◌∷◌, nat_lt, l
 ghost use Rattle.jl_logic.specs.Answers.{Gives};
 ghost use Rattle.jl_pool.specs.declared.constant.Constant.TheVariants as constants;
 ghost use Rattle.jl_pool.specs.declared.constant.BuildEnd.TheVariants as ends;
-ghost use Rattle.jl_pool.specs.Builder.{build_told, has, is_same, index_of, with_constant, with_needed, fitting, text_in, IsShort, AreKept, entry_of, entries_of, pool_of};
+ghost use Rattle.jl_pool.specs.Builder.{build_told, has, is_same, index_of, index_in, with_constant, with_needed, fitting, text_in, IsShort, AreKept, entry_of, entries_of, pool_of};
 ghost use Rattle.jl_names.specs.Utf16.{utf16};
 ghost use Rattle.jl_pool.specs.Spelling.{ArePoolEntries};
 
@@ -52,10 +52,10 @@ impl PoolBuilder {
         self.constants.contains(constant)
     }
 
-    /// The index of a constant that is there.
+    /// The index of a constant, and 0 where it is not there.
     pub fn index(&self, constant: &Constant) -> u16
-        requires { IsTrue (has self.now constant.now) }
-        ensures { result ≡ index_of self.now constant.now }
+        ensures index { result ≡ index_in self.now constant.now }
+        ensures there { IsTrue (has self.now constant.now) → result ≡ index_of self.now constant.now }
     {
         match self.constants.get_index_of(constant) {
             Some(at) => at as u16 + 1,
