@@ -56,18 +56,18 @@ named_same d =
     let b = text_need (codes "ModulePackages") ∷ (map package_need d.packages ++ main_needs d.main) in
     let first = class_need (codes "module-info") ∷ text_need (codes "Module") ∷ module_need d.name ∷ [] in
     let front : map need_of (front_constants d) ≡ first ++ (v ++ r) =
-        ap (λ (ns : List Need). first ++ ns) (joined (version_constants d.version) (map required_constant d.required) v r (version_same d.version) (each_need required_constant (λ (q : Requires). module_need q.name) (λ q. refl) d.required)) in
+    ap (λ (ns : List Need). first ++ ns) (joined (version_constants d.version) (map required_constant d.required) v r (version_same d.version) (each_need required_constant (λ (q : Requires). module_need q.name) (λ q. refl) d.required)) in
     let provided : map need_of (flat_map provides_constants d.provides) ≡ p = all_needs provides_constants provides_needs provides_same d.provides in
     let used : map need_of (map class_constant d.uses) ≡ u = each_need class_constant class_need (λ n. refl) d.uses in
     let granted : (gs : List Grant) → map need_of (flat_map grant_constants gs) ≡ flat_map grant_needs gs = all_needs grant_constants grant_needs grant_same in
     let table : map need_of (table_constants d) ≡ e ++ (o ++ (u ++ p)) =
-        joined (flat_map grant_constants d.exports) (flat_map grant_constants d.opens ++ (map class_constant d.uses ++ flat_map provides_constants d.provides)) e (o ++ (u ++ p)) (granted d.exports)
-        (joined (flat_map grant_constants d.opens) (map class_constant d.uses ++ flat_map provides_constants d.provides) o (u ++ p) (granted d.opens)
-        (joined (map class_constant d.uses) (flat_map provides_constants d.provides) u p used provided)) in
+    joined (flat_map grant_constants d.exports) (flat_map grant_constants d.opens ++ (map class_constant d.uses ++ flat_map provides_constants d.provides)) e (o ++ (u ++ p)) (granted d.exports)
+    (joined (flat_map grant_constants d.opens) (map class_constant d.uses ++ flat_map provides_constants d.provides) o (u ++ p) (granted d.opens)
+    (joined (map class_constant d.uses) (flat_map provides_constants d.provides) u p used provided)) in
     let back : map need_of (back_constants d) ≡ b =
-        ap (λ (ns : List Need). text_need (codes "ModulePackages") ∷ ns) (joined (map package_constant d.packages) (main_constants d.main) (map package_need d.packages) (main_needs d.main) (each_need package_constant package_need (λ n. refl) d.packages) (main_same d.main)) in
+    ap (λ (ns : List Need). text_need (codes "ModulePackages") ∷ ns) (joined (map package_constant d.packages) (main_constants d.main) (map package_need d.packages) (main_needs d.main) (each_need package_constant package_need (λ n. refl) d.packages) (main_same d.main)) in
     let whole : map need_of (named_constants d) ≡ (first ++ (v ++ r)) ++ ((e ++ (o ++ (u ++ p))) ++ b) =
-        joined (front_constants d) (table_constants d ++ back_constants d) (first ++ (v ++ r)) ((e ++ (o ++ (u ++ p))) ++ b) front (joined (table_constants d) (back_constants d) (e ++ (o ++ (u ++ p))) b table back) in
+    joined (front_constants d) (table_constants d ++ back_constants d) (first ++ (v ++ r)) ((e ++ (o ++ (u ++ p))) ++ b) front (joined (table_constants d) (back_constants d) (e ++ (o ++ (u ++ p))) b table back) in
     whole ∙ (ap (λ (ns : List Need). (first ++ (v ++ r)) ++ ns) (append_assoc e (o ++ (u ++ p)) b ∙ ap (λ (ns : List Need). e ++ ns) (append_assoc o (u ++ p) b ∙ ap (λ (ns : List Need). o ++ ns) (append_assoc u p b)))
     ∙ (append_assoc first (v ++ r) (e ++ (o ++ (u ++ (p ++ b)))) ∙ ap (λ (ns : List Need). first ++ ns) (append_assoc v r (e ++ (o ++ (u ++ (p ++ b)))))))
 
@@ -118,9 +118,9 @@ long_or other (Some n) = Some n
 first_found : (other : Option (List ℕ)) (ts : List Counted) → named_or other (find (λ (t : Counted). nat_lt 65535 t.1) ts) ≡ long_or other (first_long ts)
 first_found other [] = refl
 first_found other (t ∷ ts) = elim (cases_Bool (nat_lt 65535 t.1)) [
-    | inl l ↦ rw l refl
-    | inr s ↦ rw s (first_found other ts)
-  ]
+  | inl l ↦ rw l refl
+  | inr s ↦ rw s (first_found other ts)
+]
 
 abbrev pool_or : Declaration → Option (List ℕ)
 pool_or d = if nat_lt 65535 (pool_count d) then Some (codes "pool") else None

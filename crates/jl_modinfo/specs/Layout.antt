@@ -1,6 +1,6 @@
 -- The constants that a declaration names, and its parts by their indices, as they are written (JVMS 4.1, 4.7.25 to 4.7.27).
-use Rattle.std.specs.Prelude.{ℕ, ◌+◌, List, [], ◌∷◌, ◌++◌, length, map, Option, None, Some, Bool, nat_lt, codes, if◌then◌else◌}
-use Rattle.std.specs.List.{flat_map, list_any}
+use Rattle.std.specs.Prelude.{ℕ, ◌+◌, ◌<◌, List, [], ◌∷◌, ◌++◌, length, map, Option, None, Some, Bool, nat_lt, codes, if◌then◌else◌}
+use Rattle.std.specs.List.{flat_map, list_any, AllByRecursion}
 use Rattle.jl_reading.specs.Reading.{two, four}
 use Rattle.jl_prim.specs.declared.declaration.Requires.{Requires}
 use Rattle.jl_prim.specs.declared.declaration.Grant.{Grant}
@@ -127,6 +127,68 @@ file_of cs d =
     ++ ((two (length (pool_of cs)) ++ flat_map entry_bytes (pool_of cs))
     ++ back_bytes (class_index cs (codes "module-info")) (attributes_of cs d))
 
+-- ---- the same bytes as they are written, one entry after the other
+
+abbrev pub counted_by : {A : Type 0} → (A → List ℕ) → List A → List ℕ
+counted_by bytes xs = two (length xs) ++ flat_map bytes xs
+
+abbrev pub module_bytes : List Constant → List ℕ → List ℕ
+module_bytes cs n = two (module_index cs n)
+
+abbrev pub class_bytes : List Constant → List ℕ → List ℕ
+class_bytes cs n = two (class_index cs n)
+
+abbrev pub package_bytes : List Constant → List ℕ → List ℕ
+package_bytes cs n = two (package_index cs n)
+
+abbrev pub requires_written : List Constant → Requires → List ℕ
+requires_written cs r = module_bytes cs r.name ++ (two (requires_flags r) ++ two 0)
+
+abbrev pub grant_written : List Constant → Grant → List ℕ
+grant_written cs g = package_bytes cs g.package ++ (two 0 ++ counted_by (module_bytes cs) (targets g))
+
+abbrev pub provides_written : List Constant → Provides → List ℕ
+provides_written cs p = class_bytes cs p.service ++ counted_by (class_bytes cs) p.implementations
+
+abbrev pub head_written : List Constant → Declaration → List ℕ
+head_written cs d = module_bytes cs d.name ++ (two (if d.is_open then 0x20 else 0) ++ two (version_index cs d.version))
+
+abbrev pub tables_written : List Constant → Declaration → List ℕ
+tables_written cs d =
+    counted_by (requires_written cs) d.required ++ (counted_by (grant_written cs) d.exports ++ (counted_by (grant_written cs) d.opens
+    ++ (counted_by (class_bytes cs) d.uses ++ counted_by (provides_written cs) d.provides)))
+
+abbrev pub body_written : List Constant → Declaration → List ℕ
+body_written cs d = head_written cs d ++ tables_written cs d
+
+abbrev pub attribute_written : List Constant → List ℕ → List ℕ → List ℕ
+attribute_written cs name content = two (index_in cs (constants.Text name)) ++ (four (length content) ++ content)
+
+abbrev pub main_written : List Constant → Option (List ℕ) → List ℕ
+main_written cs None = []
+main_written cs (Some class) = attribute_written cs (codes "ModuleMainClass") (class_bytes cs class)
+
+abbrev pub attribute_count : Option (List ℕ) → ℕ
+attribute_count None = 2
+attribute_count (Some class) = 3
+
+abbrev pub attributes_written : List Constant → Declaration → List ℕ
+attributes_written cs d =
+    two (attribute_count d.main) ++ (attribute_written cs (codes "Module") (body_written cs d)
+    ++ (attribute_written cs (codes "ModulePackages") (counted_by (package_bytes cs) d.packages) ++ main_written cs d.main))
+
+abbrev pub class_written : List Constant → List ℕ
+class_written cs = two 0x8000 ++ (two (class_index cs (codes "module-info")) ++ (two 0 ++ (two 0 ++ (two 0 ++ two 0))))
+
+abbrev pub front_written : List ℕ
+front_written = four 0xCAFEBABE ++ (two 0 ++ two 53)
+
+abbrev pub pool_written : List Constant → List ℕ
+pool_written cs = two (length (pool_of cs)) ++ flat_map entry_bytes (pool_of cs)
+
+abbrev pub file_written : List Constant → Declaration → List ℕ
+file_written cs d = front_written ++ (pool_written cs ++ (class_written cs ++ attributes_written cs d))
+
 -- ---- entering
 
 -- the constants after each of these is entered in turn
@@ -170,3 +232,22 @@ abbrev pub long_in_file : Declaration → Option (List ℕ)
 long_in_file d =
     or_else (named_if (codes "requires") (nat_lt 65535 (length d.required)))
     (or_else (long_of_grants (codes "exports") d.exports) (or_else (long_of_grants (codes "opens") d.opens) (long_behind_grants d)))
+
+-- ---- tables whose counts fit two bytes
+
+abbrev pub AreTargetsFew : List Grant → Type 0
+AreTargetsFew grants = AllByRecursion (λ (g : Grant). length (targets g) < 65536) grants
+
+abbrev pub AreClassesFew : List Provides → Type 0
+AreClassesFew provides = AllByRecursion (λ (p : Provides). length p.implementations < 65536) provides
+
+pub record AreFew (d : Declaration) : Type 0 where
+  pub required : length d.required < 65536
+  pub exports : length d.exports < 65536
+  pub exported : AreTargetsFew d.exports
+  pub opens : length d.opens < 65536
+  pub opened : AreTargetsFew d.opens
+  pub uses : length d.uses < 65536
+  pub provides : length d.provides < 65536
+  pub provided : AreClassesFew d.provides
+  pub packages : length d.packages < 65536

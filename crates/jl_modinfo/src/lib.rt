@@ -17,6 +17,9 @@ mod reading;
 mod rules;
 mod stand_in;
 mod table;
+mod tables;
+mod writing;
 
 pub use fault::{InfoFault, InfoWriteFault};
 pub use reading::read_info;
+pub use writing::write_info;
