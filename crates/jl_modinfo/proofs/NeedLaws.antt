@@ -1,6 +1,6 @@
 -- What a declaration needs, as constants, and how many there are.
 use Rattle.std.proofs.Common.{◌≡◌, ℕ, ◌+◌, ◌<◌, ◌≤◌, Bool, true, false, List, [], ◌∷◌, ◌++◌, length, map, Option, None, Some, refl, inl, inr, sym, ap, ap₂, subst, ◌∙◌, append_assoc, arith}
-use Rattle.std.specs.Prelude.{Result, Ok, Err, codes, find, nat_lt, if◌then◌else◌}
+use Rattle.std.specs.Prelude.{Result, Ok, Err, IsOkUnless, codes, find, nat_lt, if◌then◌else◌}
 use Rattle.std.specs.List.{flat_map, AllByRecursion}
 use Rattle.std.specs.Option.{option_to_list}
 use Rattle.std.proofs.lemmas.Bool.{cases_Bool, lt-ltb, le-ltb}
@@ -14,7 +14,10 @@ use Rattle.jl_pool.specs.declared.constant.Constant.{Constant}
 use Rattle.jl_pool.specs.declared.constant.Constant.TheVariants as constants
 use Rattle.jl_pool.specs.declared.constant.BuildEnd.TheVariants as ends
 use Rattle.jl_pool.specs.Builder.{text_in, IsShort, fitting}
-use Rattle.jl_modinfo.specs.Writing.{Need, Counted, text_need, class_need, module_need, package_need, targets, grant_needs, provides_needs, main_needs, named, with_text, needed, each_once, pool_count, tables, too_many, AreShort}
+use Rattle.jl_logic.specs.Answers.{Gives}
+use Rattle.jl_modinfo.specs.declared.fault.InfoWriteFault.{InfoWriteFault}
+use Rattle.jl_modinfo.specs.declared.fault.InfoWriteFault.TheVariants as faults
+use Rattle.jl_modinfo.specs.Writing.{Need, Counted, text_need, class_need, module_need, package_need, targets, grant_needs, provides_needs, main_needs, named, with_text, needed, each_once, pool_count, tables, too_many, AreShort, accepted, write_told}
 use Rattle.jl_modinfo.specs.Layout.{need_of, module_constant, class_constant, package_constant, required_constant, grant_constants, provides_constants, main_constants, version_constants, front_constants, table_constants, back_constants, named_constants, with_all, first_long}
 use Rattle.jl_modinfo.proofs.WritingLaws.{parts, length_all, fitting_is, fitting_not}
 
@@ -146,3 +149,13 @@ refused_none d cs none e =
     let few = (fitting_is (with_all [] (named_constants d)) cs e).1 in
     let count = count_is d in
     too_many_is d ∙ (ap (long_or (pool_or d)) none ∙ ap (λ (b : Bool). if b then Some (codes "pool") else None) (le-ltb 65535 (pool_count d) (omega (arith, few, count))))
+
+-- ---- the clause on what is refused
+
+pub refused_as : {X : Type 0} (r : Result X InfoWriteFault) (a b : Option (List ℕ)) → a ≡ b → Gives {Y = Unit {0}} write_told (λ _. tt) r (accepted a) → Gives {Y = Unit {0}} write_told (λ _. tt) r (accepted b)
+refused_as {X = X} r a b e g = subst (λ (o : Option (List ℕ)). Gives {X = X} {Y = Unit {0}} write_told (λ _. tt) r (accepted o)) e g
+
+pub accepted_unless : {X : Type 0} (r : Result X InfoWriteFault) (a : Option (List ℕ)) → IsOkUnless r faults.NoMemory → a ≡ None → Gives {Y = Unit {0}} write_told (λ _. tt) r (accepted a)
+accepted_unless (Ok x) a memory e = ap accepted e
+accepted_unless (Err faults.NoMemory) a memory e = tt
+accepted_unless (Err (faults.TooMany t)) a memory e = absurd cc

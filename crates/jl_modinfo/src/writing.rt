@@ -1,10 +1,10 @@
 //! Writing a declaration file (JVMS 4.1, 4.7.25 to 4.7.27).
 
-ghost use Rattle.std.specs.Prelude.{◌≡◌, ◌≤◌, ◌<◌, ◌++◌, length, Some, IfOk, OnOk, IsOkUnless, if◌then◌else◌};
+ghost use Rattle.std.specs.Prelude.{◌≡◌, ◌≤◌, ◌<◌, ◌++◌, length, None, Some, IfOk, OnOk, IsOkUnless, if◌then◌else◌};
 ghost use Rattle.jl_logic.specs.Answers.{Gives};
 ghost use Rattle.jl_reading.specs.Reading.{two};
-ghost use Rattle.jl_modinfo.specs.Writing.{write_told, accepted, too_many, AreShort, members};
-ghost use Rattle.jl_modinfo.specs.Layout.{AreFew, counted_by, package_bytes, version_index, head_written, tables_written, body_written, attribute_written, main_written, attribute_count, attributes_written, class_written, front_written, pool_written, file_written};
+ghost use Rattle.jl_modinfo.specs.Writing.{write_told, accepted, tables, too_many, AreShort, members};
+ghost use Rattle.jl_modinfo.specs.Layout.{AreFew, first_long, counted_by, package_bytes, version_index, head_written, tables_written, body_written, attribute_written, main_written, attribute_count, attributes_written, class_written, front_written, pool_written, file_written};
 
 use crate::entering::entered;
 use crate::fault::InfoWriteFault;
@@ -34,9 +34,18 @@ pub fn write_info(alloc: Global, d: &Declaration) -> Result<Vec<u8>, InfoWriteFa
     // Which table has too many entries, exactly.
     ensures refused { Gives write_told (λ _. tt) result (accepted (too_many d.now)) }
 {
-    if let Some(table) = long_table(d) {
-        return too_long(alloc, table);
+    match long_table(d) {
+        Some(table) => too_long(alloc, table),
+        None => fitting_info(alloc, d),
     }
+}
+
+/// The file of a declaration whose tables are short enough.
+fn fitting_info(alloc: Global, d: &Declaration) -> Result<Vec<u8>, InfoWriteFault>
+    requires short { AreShort d.now }
+    requires tables { first_long (tables d.now) ≡ None }
+    ensures refused { Gives write_told (λ _. tt) result (accepted (too_many d.now)) }
+{
     let constants = constants_of(alloc, d)?;
     match entered(alloc, &constants) {
         Ok(pool) => written(alloc, &pool, d),
