@@ -1,5 +1,13 @@
 pub mod TextLaws
 pub mod TextLoop
 pub mod TextClauses
-pub mod Utf16Laws
 pub mod NameLaws
+pub mod ParamsLoop
+pub mod TypeLaws
+pub mod DescriptorLaws
+pub mod BadPlaces
+pub mod DescriptorBad
+pub mod MethodBad
+pub mod TextBad
+pub mod Rows
+pub mod Utf16Laws

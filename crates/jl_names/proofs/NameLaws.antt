@@ -1,5 +1,5 @@
 -- Names, read from left to right.
-use Rattle.std.proofs.Common.{◌≡◌, ℕ, ◌+◌, ◌-◌, ◌<◌, ◌≤◌, Bool, true, false, not, cond, ◌&&◌, ◌||◌, eqb, List, [], ◌∷◌, ◌++◌, length, take, drop, get_or, slice_index, refl, sym, ap, ◌∙◌, arith}
+use Rattle.std.proofs.Common.{◌≡◌, ℕ, ◌+◌, ◌-◌, ◌<◌, ◌≤◌, Bool, true, false, not, cond, ◌&&◌, ◌||◌, List, [], ◌∷◌, ◌++◌, length, take, drop, get_or, refl, sym, ◌∙◌, arith}
 use Rattle.std.specs.List.{list_all, list_any}
 use Rattle.std.proofs.lemmas.Bool.{cond_both, eqb-true}
 use Rattle.std.proofs.lemmas.List.{take_more, take_all}
@@ -53,9 +53,11 @@ class_step begun b bs = by_slash (is_slash b) refl
     by_begun : (begun : Bool) → cond begun (goes_on false bs) false ≡ cond (not begun) false (goes_on false bs)
     by_begun true = refl
     by_begun false = refl
+
     by_reserved : (reserved : Bool) → is_reserved b ≡ reserved → begun_parts begun (with_first b (parts bs)) ≡ cond (reserved || false) false (goes_on true bs)
     by_reserved true e = step_within begun true b (parts bs) e
     by_reserved false e = step_within begun false b (parts bs) e
+
     by_slash : (slash : Bool) → is_slash b ≡ slash → goes_on begun (b ∷ bs) ≡ cond (stops b begun) false (goes_on (not (is_slash b)) bs)
     by_slash true e =
         let is : b ≡ 47 = eqb-true b 47 e in

@@ -13,7 +13,7 @@ use Rattle.jl_names.specs.Text.{unit_bytes, text_bytes, AreUnits, is_tail, may_f
 
 -- ---- bytes at places
 
-byte_stands : (bytes : List ℕ) (at : ℕ) → at < length bytes → Stands bytes at (slice_index bytes at ∷ []) (at + 1)
+pub byte_stands : (bytes : List ℕ) (at : ℕ) → at < length bytes → Stands bytes at (slice_index bytes at ∷ []) (at + 1)
 byte_stands bytes at lt = Stands-from_parts bytes at (slice_index bytes at ∷ []) (drop (at + 1) bytes) (at + 1) (drop_more bytes at 0 lt) refl (omega arith)
 
 two_stand : (bytes : List ℕ) (at : ℕ) → at + 1 < length bytes → Stands bytes at (slice_index bytes at ∷ slice_index bytes (at + 1) ∷ []) (at + 2)
@@ -28,12 +28,12 @@ three_stand bytes at lt =
     subst (λ (n : ℕ). Stands bytes at (slice_index bytes at ∷ slice_index bytes (at + 1) ∷ slice_index bytes (at + 2) ∷ []) n) place
     (Stands-then bytes at (slice_index bytes at ∷ slice_index bytes (at + 1) ∷ []) (at + 2) (slice_index bytes (at + 2) ∷ []) ((at + 2) + 1) (two_stand bytes at (omega arith)) (byte_stands bytes (at + 2) lt))
 
-record Begins (bytes : List ℕ) (at x : ℕ) (xs : List ℕ) (next : ℕ) : Type 0 where
+pub record Begins (bytes : List ℕ) (at x : ℕ) (xs : List ℕ) (next : ℕ) : Type 0 where
   pub here : slice_index bytes at ≡ x
   pub rest : Stands bytes (at + 1) xs next
   pub within : at < length bytes
 
-begins : (bytes : List ℕ) (at x : ℕ) (xs : List ℕ) (next : ℕ) → Stands bytes at (x ∷ xs) next → Begins bytes at x xs next
+pub begins : (bytes : List ℕ) (at x : ℕ) (xs : List ℕ) (next : ℕ) → Stands bytes at (x ∷ xs) next → Begins bytes at x xs next
 begins bytes at x xs next s =
     let place : at ≡ at + 0 = omega arith in
     record {
@@ -44,10 +44,10 @@ begins bytes at x xs next s =
 
 -- ---- tests and numbers
 
-between : (low high n : ℕ) → (nat_le low n && nat_lt n high) ≡ true → (low ≤ n) × (n < high)
+pub between : (low high n : ℕ) → (nat_le low n && nat_lt n high) ≡ true → (low ≤ n) × (n < high)
 between low high n e = let p = and_parts (leb low n) (ltb n high) e in (leb-true low n p.0, ltb-true n high p.1)
 
-is_between : (low high n : ℕ) → low ≤ n → n < high → (nat_le low n && nat_lt n high) ≡ true
+pub is_between : (low high n : ℕ) → low ≤ n → n < high → (nat_le low n && nat_lt n high) ≡ true
 is_between low high n le lt = and_from (leb low n) (ltb n high) (le-leb low n le) (lt-ltb n high lt)
 
 abbrev TwoRange : ℕ → ℕ → Type 0
@@ -163,16 +163,16 @@ unit_stands bytes at u next lt =
     ok_pair bytes at ((b - 224) * 4096 + (c - 128) * 64 + (d - 128)) (at + 3) u next (subst (λ (text : List ℕ). Stands bytes at text (at + 3)) (sym s.0) (three_stand bytes at (ltb-true (at + 2) (length bytes) last.0)), s.1) i.1)
     h.1)
 
-one_read : (bytes : List ℕ) (at b : ℕ) → slice_index bytes at ≡ b → (ltb 0 b && ltb b 128) ≡ true → unit_at bytes at ≡ Ok (b, at + 1)
+pub one_read : (bytes : List ℕ) (at b : ℕ) → slice_index bytes at ≡ b → (ltb 0 b && ltb b 128) ≡ true → unit_at bytes at ≡ Ok (b, at + 1)
 unfolding unit_at
 one_read bytes at b here t = rw (here, t) refl
 
-two_read : (bytes : List ℕ) (at b c : ℕ) → slice_index bytes at ≡ b → slice_index bytes (at + 1) ≡ c → at + 1 < length bytes → (ltb 0 b && ltb b 128) ≡ false → begins_two b ≡ true → may_follow b c ≡ true
+pub two_read : (bytes : List ℕ) (at b c : ℕ) → slice_index bytes at ≡ b → slice_index bytes (at + 1) ≡ c → at + 1 < length bytes → (ltb 0 b && ltb b 128) ≡ false → begins_two b ≡ true → may_follow b c ≡ true
     → unit_at bytes at ≡ Ok ((b - 192) * 64 + (c - 128), at + 2)
 unfolding unit_at
 two_read bytes at b c here there lt t first second = rw (here, there, t, first, lt-ltb (at + 1) (length bytes) lt, second) refl
 
-three_read : (bytes : List ℕ) (at b c d : ℕ) → slice_index bytes at ≡ b → slice_index bytes (at + 1) ≡ c → slice_index bytes (at + 2) ≡ d → at + 2 < length bytes → (ltb 0 b && ltb b 128) ≡ false → begins_two b ≡ false → begins_three b ≡ true → may_follow b c ≡ true → is_tail d ≡ true
+pub three_read : (bytes : List ℕ) (at b c d : ℕ) → slice_index bytes at ≡ b → slice_index bytes (at + 1) ≡ c → slice_index bytes (at + 2) ≡ d → at + 2 < length bytes → (ltb 0 b && ltb b 128) ≡ false → begins_two b ≡ false → begins_three b ≡ true → may_follow b c ≡ true → is_tail d ≡ true
     → unit_at bytes at ≡ Ok ((b - 224) * 4096 + (c - 128) * 64 + (d - 128), at + 3)
 unfolding unit_at
 three_read bytes at b c d here there last lt t no_two first second third = rw (here, there, last, t, no_two, first, lt-ltb (at + 1) (length bytes) (omega arith), second, lt-ltb (at + 2) (length bytes) lt, third) refl

@@ -35,7 +35,7 @@ goes_on front n i at bytes u next total lt within h so_far =
     rw (k, lt-ltb at (length bytes) within, h) (regroup front u (units_from (n - (i + 1)) bytes next)) in
     sym one ∙ so_far
 
-told_as : (e : TextFault) (total : Result (List ℕ) TextFault) → total ≡ Err e → Fails told e total
+pub told_as : {A : Type 0} (e : TextFault) (total : Result A TextFault) → total ≡ Err e → Fails told e total
 told_as (BadText at) total h = h
 told_as NoMemory total h = tt
 

@@ -1,5 +1,5 @@
 -- Units and their bytes (JVMS 4.4.7), and units as UTF-8.
-use Rattle.std.specs.Prelude.{ℕ, zero, suc, ◌+◌, ◌-◌, ◌*◌, ◌/◌, ◌%◌, ◌<◌, nat_lt, nat_le, ◌==◌, List, [], ◌∷◌, ◌++◌, length, slice_index, Bool, true, not, ◌&&◌, ◌||◌, Option, None, Some, Result, Ok, Err, encode_utf8, if◌then◌else◌}
+use Rattle.std.specs.Prelude.{◌≡◌, ℕ, zero, suc, ◌+◌, ◌-◌, ◌*◌, ◌/◌, ◌%◌, ◌<◌, nat_lt, nat_le, ◌==◌, List, [], ◌∷◌, ◌++◌, length, slice_index, Bool, true, not, ◌&&◌, ◌||◌, Option, None, Some, Result, Ok, Err, encode_utf8, if◌then◌else◌}
 use Rattle.std.specs.List.{flat_map, AllByRecursion}
 use Rattle.jl_reading.specs.Reading.{◌>>=◌}
 use Rattle.jl_names.specs.declared.fault.TextFault.{TextFault}
@@ -25,6 +25,10 @@ text_bytes units = flat_map unit_bytes units
 
 abbrev pub AreUnits : List ℕ → Type 0
 AreUnits = AllByRecursion (λ u. u < 65536)
+
+-- the bytes are some text
+abbrev pub IsText : List ℕ → Type 0
+IsText bytes = (units : List ℕ) × AreUnits units × (text_bytes units ≡ bytes)
 
 -- ---- reading
 

@@ -9,7 +9,7 @@ use std::alloc::{AllocError, AllocFailed};
 /// Why a text was not read or made.
 #[derive(Clone, Copy, Debug, PartialEq, Eq)]
 pub enum TextFault {
-    /// Here stands the first byte that no unit can have there, or the text ends inside a unit.
+    /// Here stands the first byte with which no such text goes on, or the text ends too early.
     BadText(usize),
     /// There was no memory for the answer.
     NoMemory,

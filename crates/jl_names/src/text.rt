@@ -1,10 +1,12 @@
 //! Modified UTF-8 to units and units to UTF-8.
 
-ghost use Rattle.std.specs.Prelude.{◌≡◌, ◌≤◌, ◌<◌, ℕ, List, length, Ok, IfOk, IsOkUnless, IsTrue, encode_utf8};
+ghost use Rattle.std.specs.Prelude.{◌≡◌, ◌≤◌, ◌<◌, ℕ, List, length, ◌++◌, Ok, Err, IfOk, OnOk, IsOkUnless, IsTrue, encode_utf8};
 ghost use Rattle.std.specs.String.{string_bytes};
 ghost use Rattle.jl_logic.specs.Answers.{Gives};
-ghost use Rattle.jl_names.specs.Text.{units_read, unit_at, AreUnits, text_bytes, told, plain, has_no_lone_surrogate};
+ghost use Rattle.jl_names.specs.Text.{units_read, unit_at, AreUnits, IsText, unit_bytes, text_bytes, told, plain, has_no_lone_surrogate};
 ghost use Rattle.jl_names.specs.Text as texts;
+ghost use Rattle.jl_names.specs.Bad.{IsBadAt};
+ghost use Rattle.jl_names.specs.declared.fault.TextFault.TheVariants.{BadText};
 
 use crate::fault::TextFault;
 use crate::units::Units;
@@ -19,7 +21,9 @@ pub fn units_of(alloc: Global, bytes: &[u8]) -> Result<Units, TextFault>
     ensures found { IfOk result (λ units. AreUnits units × (text_bytes units ≡ bytes.now)) }
     // What is spelled so is read, unless memory runs out.
     ensures only { (units : List ℕ) → AreUnits units → text_bytes units ≡ bytes.now → Gives told (λ all. all) result (Ok units) }
-    // Which fault it is.
+    // Where it stops.
+    ensures bad { (at : ℕ) → result ≡ Err (BadText at) → IsBadAt IsText bytes.now at }
+    // By reading from left to right.
     ensures exact { Gives told (λ units. units) result (units_read bytes.now) }
 {
     all_units(alloc, bytes)
@@ -96,6 +100,50 @@ fn may_follow(first: u8, byte: u8) -> bool
         224 => (160..192).contains(&byte),
         _ => is_tail(byte),
     }
+}
+
+/// The modified UTF-8 of units (JVMS 4.4.7). There is no refusal but want of memory.
+pub fn bytes_of(alloc: Global, units: &[u16]) -> Result<Vec<u8>, TextFault>
+    ensures bytes { IfOk result (λ bytes. bytes.items ≡ text_bytes units.now) }
+    // What is written is read as the same units.
+    ensures back { IfOk result (λ bytes. units_read bytes.items ≡ Ok units.now) }
+    ensures memory { IsOkUnless result TextFault.NoMemory }
+{
+    let mut bytes = Vec::new(alloc);
+    let mut rest = units;
+    while let [unit, others @ ..] = rest {
+        push_unit(&mut bytes, *unit)?;
+        rest = others;
+    }
+    Ok(bytes)
+}
+
+/// Writes the bytes of a unit behind others.
+fn push_unit(bytes: &mut Vec<u8>, unit: u16) -> Result<(), TextFault>
+    ensures bytes { OnOk result (bytes.new.items ≡ bytes.old.items ++ unit_bytes unit) }
+    ensures memory { IsOkUnless result TextFault.NoMemory }
+{
+    let last = 128 + (unit % 64) as u8;
+    if unit > 0 && unit < 128 {
+        bytes.push(unit as u8)?;
+    } else if unit < 2048 {
+        bytes.push(192 + (unit / 64) as u8)?;
+        bytes.push(last)?;
+    } else {
+        bytes.push(224 + (unit / 4096) as u8)?;
+        bytes.push(128 + (unit / 64 % 64) as u8)?;
+        bytes.push(last)?;
+    }
+    Ok(())
+}
+
+/// The bytes of the units as UTF-8, a pair of surrogates as one character. A surrogate that stands alone
+/// becomes `?`. There is no refusal but want of memory.
+pub fn plain_of(alloc: Global, units: &[u16]) -> Result<Vec<u8>, TextFault>
+    ensures bytes { IfOk result (λ bytes. bytes.items ≡ plain units.now) }
+    ensures memory { IsOkUnless result TextFault.NoMemory }
+{
+    Ok(plain_text(alloc, units)?.into_bytes())
 }
 
 /// The units as UTF-8, a pair of surrogates as one character. A surrogate that stands alone becomes `?`.

@@ -27,6 +27,12 @@ const EACH: [u8; 83] = [
     1, 0, 13, 19, 0, 1, 20, 0, 1,
 ];
 
+/// The places where a number or a text of that pool begins.
+const EACH_STARTS: [usize; 43] = [
+    0, 2, 3, 5, 6, 7, 11, 12, 16, 17, 25, 26, 34, 35, 37, 38, 40, 41, 43, 45, 46, 48, 50, 51, 53,
+    55, 56, 58, 60, 61, 62, 64, 65, 67, 68, 70, 72, 73, 75, 77, 78, 80, 81,
+];
+
 /// The tag at each index of that pool.
 const TAGS: [u8; 20] = [
     0, 1, 3, 4, 5, 0, 6, 0, 7, 8, 9, 10, 11, 12, 15, 16, 17, 18, 19, 20,
@@ -64,12 +70,12 @@ fn pool_of_a_declaration(rt: HostRuntime) -> Result<(), Fail> {
     Ok(())
 }
 
-/// The greatest place up to n where a number or a text begins.
-fn start_up_to(n: usize) -> usize {
-    let mut unit = 8;
-    for start in STARTS {
-        if start <= n {
-            unit = start;
+/// The greatest of the places up to n.
+fn start_up_to(starts: &[usize], n: usize) -> usize {
+    let mut unit = 0;
+    for start in starts {
+        if *start <= n {
+            unit = *start;
         }
     }
     unit
@@ -80,7 +86,18 @@ fn cut_pools(rt: HostRuntime) {
     for n in 8..58 {
         let is_short = match read_pool(rt.alloc(), &FILE[..n], 8) {
             Ok(_) => false,
-            Err(fault) => fault == PoolFault::Short(start_up_to(n)),
+            Err(fault) => fault == PoolFault::Short(start_up_to(&STARTS, n)),
+        };
+        assert!(rt; is_short);
+    }
+}
+
+#[test]
+fn cut_tags(rt: HostRuntime) {
+    for n in 0..83 {
+        let is_short = match read_pool(rt.alloc(), &EACH[..n], 0) {
+            Ok(_) => false,
+            Err(fault) => fault == PoolFault::Short(start_up_to(&EACH_STARTS, n)),
         };
         assert!(rt; is_short);
     }
@@ -143,6 +160,55 @@ fn pools_without_entries(rt: HostRuntime) -> Result<(), Fail> {
     Ok(())
 }
 
+/// The bytes of a pool with the Integers 0, 1 and so on at each index below 65,535.
+fn full_pool(alloc: Global) -> Option<Vec<u8>> {
+    let mut bytes = Vec::from_slice(alloc, &[0xff, 0xff]).ok()?;
+    for n in 0..65534u16 {
+        let entry = [3, 0, 0, (n / 256) as u8, (n % 256) as u8];
+        bytes.extend_from_slice(&entry).ok()?;
+    }
+    Some(bytes)
+}
+
+#[test]
+fn pool_of_65534_entries(rt: HostRuntime) -> Result<(), Fail> {
+    let bytes = full_pool(rt.alloc()).ok_or("a pool")?;
+    let (pool, next) = read_pool(rt.alloc(), &bytes, 0)?;
+    assert_eq!(rt; next, 327_672);
+    assert_eq!(rt; pool.integer(65534), Some(65533));
+    assert_eq!(rt; pool.tag(65535), None);
+    Ok(())
+}
+
+#[test]
+fn references_to_themselves(rt: HostRuntime) {
+    let table: [&[u8]; 12] = [
+        &[7, 0, 2],
+        &[8, 0, 2],
+        &[16, 0, 2],
+        &[19, 0, 2],
+        &[20, 0, 2],
+        &[9, 0, 2, 0, 2],
+        &[10, 0, 2, 0, 2],
+        &[11, 0, 2, 0, 2],
+        &[12, 0, 1, 0, 2],
+        &[15, 6, 0, 2],
+        &[17, 0, 0, 0, 2],
+        &[18, 0, 0, 0, 2],
+    ];
+    for entry in table {
+        assert!(rt; is_wrong_behind_a_text(rt.alloc(), entry));
+    }
+}
+
+/// Whether a pool of the text `a` and this entry is refused for the entry.
+fn is_wrong_behind_a_text(alloc: Global, entry: &[u8]) -> bool {
+    let Ok(mut bytes) = Vec::from_slice(alloc, &[0, 3, 1, 0, 1, 0x61]) else {
+        return false;
+    };
+    bytes.extend_from_slice(entry).is_ok() && is_read_as(alloc, &bytes, PoolFault::Entry(2))
+}
+
 #[test]
 fn unknown_tags(rt: HostRuntime) {
     for tag in [0, 2, 13, 14, 21, 255] {
@@ -164,14 +230,12 @@ fn bad_texts(rt: HostRuntime) {
 
 #[test]
 fn numbers_of_eight_bytes(rt: HostRuntime) {
-    assert!(rt; is_read_as(rt.alloc(), &[0, 2, 5], PoolFault::Entry(1)));
-    assert!(rt;
-        is_read_as(
-            rt.alloc(),
-            &[0, 2, 6, 0, 0, 0, 0, 0, 0, 0, 0],
-            PoolFault::Entry(1)
-        )
-    );
+    for tag in [5, 6] {
+        let bytes = [0, 2, tag, 0, 0, 0, 0, 0, 0, 0, 0];
+        for n in 3..12 {
+            assert!(rt; is_read_as(rt.alloc(), &bytes[..n], PoolFault::Entry(1)));
+        }
+    }
     assert!(rt; is_read_as(rt.alloc(), &[0, 3, 5, 0, 0], PoolFault::Short(3)));
     // the Class by the second index of a Long
     assert!(rt;

@@ -1,0 +1,12 @@
+use Rattle.std.proofs.Common.{◌≡◌, ◌+◌, drop, length}
+use Rattle.jl_names.specs.Descriptors.{brackets}
+use Rattle.jl_names.proofs.reading.brackets_at.Given as goal
+
+abbrev pub invariant-loop-rest : goal.invariant-loop-rest
+invariant-loop-rest l = record {
+  counted : l.count + brackets l.rest ≡ brackets (drop l.at l.text);
+  within : l.at + l.count + length l.rest ≡ length l.text;
+}
+
+abbrev pub decreases-loop-rest : goal.decreases-loop-rest
+decreases-loop-rest l = length l.rest

@@ -1,0 +1,64 @@
+//! Types and descriptors as values (JVMS 4.3).
+
+ghost use Rattle.std.specs.Prelude.{◌≡◌};
+
+use std::marker::Model;
+
+/// A type that is no array.
+#[derive(Clone, Copy, Debug, PartialEq, Eq)]
+pub enum BaseType {
+    /// A primitive type, by its letter.
+    Prim(u8),
+    /// A class: the place of its name's first byte in the text, and the place after its last.
+    Class(usize, usize),
+}
+
+/// A type of a field, parameter or result: how many dimensions an array has (0 for none), and of what.
+#[derive(Clone, Copy, Debug, PartialEq, Eq)]
+pub struct FieldType {
+    pub dims: u8,
+    pub base: BaseType,
+}
+
+/// The types of parameters, which contracts see as their list.
+#[derive(Debug, Drop)]
+pub struct Params {
+    types: Vec<FieldType>,
+}
+
+impl Model for Params {
+    ghost use Rattle.std.specs.Prelude.{List};
+    ghost use Rattle.jl_names.specs.declared.types.FieldType.{FieldType};
+
+    ghost Value = { List FieldType };
+
+    ghost view = { λ it. it.types.items };
+}
+
+impl Params {
+    /// The types of a vector, as they stand.
+    pub fn from_vec(types: Vec<FieldType>) -> Params
+        ensures { result ≡ types.items }
+    {
+        Params { types }
+    }
+
+    /// The types in order.
+    pub fn as_slice(&self) -> &[FieldType]
+        ensures { result.now ≡ self.now }
+    {
+        self.types.as_slice()
+    }
+}
+
+/// What a descriptor says.
+#[derive(Debug, Drop)]
+pub enum Descriptor {
+    /// The type of a field.
+    Field(FieldType),
+    /// The types of a method's parameters and of its result, where `V` is no result.
+    Method {
+        params: Params,
+        result: Option<FieldType>,
+    },
+}
