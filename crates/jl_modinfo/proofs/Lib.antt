@@ -1,5 +1,17 @@
+mod Rows
+mod TextRows
 pub mod Standing
 pub mod WritingLaws
 pub mod MoreLaws
 pub mod LimitLaws
 pub mod NeedLaws
+pub mod NameLaws
+pub mod AttributesLoop
+pub mod OnceLaws
+pub mod PackageLaws
+pub mod FrontLaws
+pub mod TableLaws
+pub mod EntryLaws
+pub mod BodyLaws
+pub mod AttributeLaws
+pub mod FileLaws

@@ -1,5 +1,5 @@
 -- The spelling of a declaration file: a relation between its bytes and a declaration (JVMS 4.1, 4.7.25 to 4.7.27).
-use Rattle.std.specs.Prelude.{◌≡◌, ℕ, ◌<◌, List, [], ◌∷◌, ◌++◌, length, map, filter, Option, None, Some, Bool, true, false, IsTrue, Contains, codes, ◌⊎◌, ⊤}
+use Rattle.std.specs.Prelude.{◌≡◌, ℕ, ◌<◌, List, [], ◌∷◌, ◌++◌, length, map, filter, Option, None, Some, IsTrue, Bool, true, false, codes, ◌⊎◌, ⊤}
 use Rattle.std.specs.List.{flat_map, AllByRecursion}
 use Rattle.jl_logic.specs.Order.{is_text}
 use Rattle.jl_logic.specs.Lists.{AreDistinct}

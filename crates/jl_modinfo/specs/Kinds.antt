@@ -1,5 +1,5 @@
 -- What names an index of a kind has.
-use Rattle.std.specs.Prelude.{ℕ, List, Option, Bool}
+use Rattle.std.specs.Prelude.{ℕ, List, Option}
 use Rattle.jl_pool.specs.declared.entry.Entry.{Entry}
 use Rattle.jl_modinfo.specs.declared.kind.Kind.{Kind}
 use Rattle.jl_modinfo.specs.declared.kind.Kind.TheVariants as kinds

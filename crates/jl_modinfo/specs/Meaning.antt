@@ -1,9 +1,8 @@
 -- The parts of a declaration file, and what they mean by the pool (JVMS 4.7.25, 4.7.26, 4.7.27).
-use Rattle.std.specs.Prelude.{ℕ, List, [], ◌∷◌, Option, None, Some, Bool, true, false, ◌&&◌, ◌==◌, codes, bit_and, if◌then◌else◌}
+use Rattle.std.specs.Prelude.{ℕ, List, [], ◌∷◌, Option, None, Some, Bool, false, ◌&&◌, ◌==◌, codes, bit_and, if◌then◌else◌}
 use Rattle.std.specs.List.{list_any}
 use Rattle.std.specs.Option.{option_and_then}
 use Rattle.jl_logic.specs.Order.{is_text}
-use Rattle.jl_prim.specs.declared.declaration.Requires.{Requires}
 use Rattle.jl_prim.specs.Names.{names_a_module}
 use Rattle.jl_names.specs.Names.{names_a_class}
 use Rattle.jl_names.specs.Text.{plain, has_no_lone_surrogate}

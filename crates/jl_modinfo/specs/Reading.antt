@@ -1,5 +1,5 @@
 -- Reading a declaration file from left to right, with the first fault that is met (JVMS 4.1, 4.7.25 to 4.7.27).
-use Rattle.std.specs.Prelude.{ℕ, zero, suc, ◌+◌, List, [], ◌∷◌, length, take, map, Option, None, Some, Result, Ok, Err, Bool, true, false, not, ◌||◌, nat_lt, ◌==◌, codes, is_some, if◌then◌else◌}
+use Rattle.std.specs.Prelude.{ℕ, zero, suc, ◌+◌, List, [], length, take, map, Option, None, Some, Result, Ok, Err, Bool, not, ◌||◌, nat_lt, ◌==◌, codes, if◌then◌else◌}
 use Rattle.jl_logic.specs.Order.{is_text}
 use Rattle.jl_reading.specs.Reading.{◌>>=◌, number_at, each_at}
 use Rattle.jl_prim.specs.declared.declaration.Requires.{Requires}

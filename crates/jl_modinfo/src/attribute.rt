@@ -3,7 +3,7 @@
 ghost use Rattle.std.specs.Prelude.{◌≡◌, ◌≤◌, length, IfOk};
 ghost use Rattle.jl_logic.specs.Answers.{Gives};
 ghost use Rattle.jl_modinfo.specs.Faults.{told};
-ghost use Rattle.jl_modinfo.specs.Reading.{content_end, attribute_at, attributes_from, attributes_at, unread};
+ghost use Rattle.jl_modinfo.specs.Reading.{content_end, attribute_at, attributes_from, attributes_at, once, unread};
 ghost use Rattle.jl_modinfo.specs.Reading as reading;
 
 use crate::fault::{InfoFault, repeated};
@@ -81,24 +81,83 @@ fn attribute(
     };
     let name = name.as_str();
     if name == "Module" {
-        if done.module.is_some() {
-            return repeated(alloc, "attributes", name);
-        }
-        return with_module(alloc, pool, bytes, done, next);
+        return first_module(alloc, pool, name, bytes, done, next);
     }
     if name == "ModulePackages" {
-        if done.packages.is_some() {
-            return repeated(alloc, "attributes", name);
-        }
-        return with_packages(alloc, pool, bytes, done, next);
+        return first_packages(alloc, pool, name, bytes, done, next);
     }
     if name == "ModuleMainClass" {
-        if done.main.is_some() {
-            return repeated(alloc, "attributes", name);
-        }
-        return with_main(pool, bytes, done, next);
+        return first_main(alloc, pool, name, bytes, done, next);
     }
-    let (_start, end) = content(bytes, next)?;
+    passed_over(bytes, done, next)
+}
+
+/// A Module attribute, of which there is one.
+#[tactic(auto, using(crate::proofs::OnceLaws::once_some, crate::proofs::OnceLaws::once_none))]
+fn first_module(
+    alloc: Global,
+    pool: &Pool,
+    name: &str,
+    bytes: &[u8],
+    done: Attributes,
+    at: usize,
+) -> Result<(Attributes, usize), InfoFault>
+    requires { at ≤ length bytes.now }
+    ensures exact { Gives told (λ x. x) result (once name.now done.«module» (reading.with_module pool.now bytes.now done at)) }
+    ensures within { IfOk result (λ x. x.1 ≤ length bytes.now) }
+{
+    if done.module.is_some() {
+        return repeated(alloc, "attributes", name);
+    }
+    with_module(alloc, pool, bytes, done, at)
+}
+
+#[tactic(auto, using(crate::proofs::OnceLaws::once_some, crate::proofs::OnceLaws::once_none))]
+fn first_packages(
+    alloc: Global,
+    pool: &Pool,
+    name: &str,
+    bytes: &[u8],
+    done: Attributes,
+    at: usize,
+) -> Result<(Attributes, usize), InfoFault>
+    requires { at ≤ length bytes.now }
+    ensures exact { Gives told (λ x. x) result (once name.now done.packages (reading.with_packages pool.now bytes.now done at)) }
+    ensures within { IfOk result (λ x. x.1 ≤ length bytes.now) }
+{
+    if done.packages.is_some() {
+        return repeated(alloc, "attributes", name);
+    }
+    with_packages(alloc, pool, bytes, done, at)
+}
+
+#[tactic(auto, using(crate::proofs::OnceLaws::once_some, crate::proofs::OnceLaws::once_none))]
+fn first_main(
+    alloc: Global,
+    pool: &Pool,
+    name: &str,
+    bytes: &[u8],
+    done: Attributes,
+    at: usize,
+) -> Result<(Attributes, usize), InfoFault>
+    requires { at ≤ length bytes.now }
+    ensures exact { Gives told (λ x. x) result (once name.now done.main (reading.with_main pool.now bytes.now done at)) }
+    ensures within { IfOk result (λ x. x.1 ≤ length bytes.now) }
+{
+    if done.main.is_some() {
+        return repeated(alloc, "attributes", name);
+    }
+    with_main(pool, bytes, done, at)
+}
+
+/// The attributes are as before where one of another name is passed over.
+#[tactic(auto, unfolding(crate::specs::Reading::passed_over))]
+fn passed_over(bytes: &[u8], done: Attributes, at: usize) -> Result<(Attributes, usize), InfoFault>
+    requires { at ≤ length bytes.now }
+    ensures exact { Gives told (λ x. x) result (reading.passed_over bytes.now done at) }
+    ensures within { IfOk result (λ x. x.1 ≤ length bytes.now) }
+{
+    let (_start, end) = content(bytes, at)?;
     Ok((done, end))
 }
 

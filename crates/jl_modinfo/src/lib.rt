@@ -15,7 +15,6 @@ mod names;
 mod provides;
 mod reading;
 mod rules;
-mod stand_in;
 mod table;
 mod tables;
 mod writing;
@@ -23,3 +22,8 @@ mod writing;
 pub use fault::{InfoFault, InfoWriteFault};
 pub use reading::read_info;
 pub use writing::write_info;
+
+#[cfg(test)]
+mod tests;
+#[cfg(test)]
+mod writing_tests;

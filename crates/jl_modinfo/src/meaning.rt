@@ -7,9 +7,8 @@ ghost use Rattle.jl_modinfo.specs.Meaning.{module_named, package_named, class_na
 ghost use Rattle.jl_modinfo.specs.Meaning as meaning;
 
 use crate::kind::Kind;
-use crate::stand_in::is_class_name;
 use bitflags::Flags;
-use jl_names::is_paired;
+use jl_names::{is_class_name, is_paired};
 use jl_pool::Pool;
 use jl_prim::{AccessFlags, Name, is_module_name};
 

@@ -60,6 +60,24 @@ pub fn new_name_at<'a>(
     Ok((name, next))
 }
 
+fn owned_name_at(
+    alloc: Global,
+    pool: &Pool,
+    table: &str,
+    kind: Kind,
+    bytes: &[u8],
+    done: &Names,
+    at: usize,
+) -> Result<(Name, usize), InfoFault>
+    requires { at ≤ length bytes.now }
+    ensures exact { Gives told (λ x. x) result (reading.new_name_at table.now (naming kind) pool.now bytes.now done.now at) }
+    ensures fresh { IfOk result (λ x. is_among x.0 done.now ≡ false) }
+    ensures within { IfOk result (λ x. x.1 ≤ length bytes.now) }
+{
+    let (name, next) = new_name_at(alloc, pool, table, kind, bytes, done, at)?;
+    Ok((name.copy()?, next))
+}
+
 /// The table of names whose count stands at a place.
 #[tactic(auto, unfolding(crate::specs::Reading::names_at))]
 pub fn names_at(
@@ -95,8 +113,8 @@ pub fn each_name(
     let mut done = Names::new(alloc);
     let mut next = at;
     for _ in 0..count {
-        let (name, after) = new_name_at(alloc, pool, table, kind, bytes, &done, next)?;
-        done = done.with(name.copy()?)?;
+        let (name, after) = owned_name_at(alloc, pool, table, kind, bytes, &done, next)?;
+        done = done.with(name)?;
         next = after;
     }
     Ok((copied_all(alloc, done.as_slice())?, next))

@@ -1,10 +1,11 @@
 //! Reading a declaration file.
 
-ghost use Rattle.std.specs.Prelude.{◌≡◌, ◌≤◌, List, ℕ, length, IfOk, Ok};
+ghost use Rattle.std.specs.Prelude.{◌≡◌, ◌≤◌, ◌↔◌, List, ℕ, length, IfOk, Ok, Err};
 ghost use Rattle.jl_logic.specs.Answers.{Gives};
 ghost use Rattle.jl_pool.specs.Reading.{pool_at};
 ghost use Rattle.jl_prim.specs.declared.declaration.Declaration.{Declaration};
 ghost use Rattle.jl_modinfo.specs.Info.{IsInfo};
+ghost use Rattle.jl_modinfo.specs.declared.fault.InfoFault.{InfoFault};
 ghost use Rattle.jl_modinfo.specs.Faults.{told, pool_or};
 ghost use Rattle.jl_modinfo.specs.Reading.{info_of, declaration_of, or_found, whole as whole_file};
 
@@ -26,6 +27,8 @@ pub fn read_info(alloc: Global, bytes: &[u8], found: &[Name]) -> Result<Declarat
     ensures exact { Gives told (λ d. d) result (info_of bytes.now found.now) }
     ensures found { IfOk result (λ d. IsInfo bytes.now found.now d) }
     ensures only { (d : Declaration) → IsInfo bytes.now found.now d → Gives told (λ d. d) result (Ok d) }
+    // There is a fault exactly where there is no declaration.
+    ensures one { ((f : InfoFault) × (info_of bytes.now found.now ≡ Err f)) ↔ ((d : Declaration) → IsInfo bytes.now found.now d → ⊥) }
 {
     info(alloc, bytes, found)
 }

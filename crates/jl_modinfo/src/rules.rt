@@ -1,10 +1,13 @@
 //! The rules on a whole declaration (JLS 7.7.1, 7.7.2, 7.7.4; JVMS 4.7.25, 4.7.26).
 
-ghost use Rattle.std.specs.Prelude.{◌≡◌, ◌++◌, ℕ, List, Ok, Err, IfOk, OnOk, IfErr, map, nat_eq};
+ghost use Rattle.std.specs.Prelude.{◌≡◌, ◌++◌, ℕ, List, Ok, IfOk, OnOk, IfErr, map, find, not, nat_eq};
 ghost use Rattle.std.specs.List.{list_any};
+ghost use Rattle.std.specs.Option.{option_copied};
 ghost use Rattle.std.specs.Cmp.Lexicographic.{pointwise};
 ghost use Rattle.jl_logic.specs.Answers.{Gives};
+ghost use Rattle.jl_logic.specs.Order.{is_text};
 ghost use Rattle.jl_prim.specs.declared.declaration.Requires.{Requires};
+ghost use Rattle.jl_modinfo.specs.declared.fault.InfoFault.TheVariants.{NoMemory};
 ghost use Rattle.jl_names.specs.Names.{package_of as package_in};
 ghost use Rattle.jl_modinfo.specs.Faults.{told};
 ghost use Rattle.jl_modinfo.specs.Meaning.{is_among};
@@ -13,8 +16,8 @@ ghost use Rattle.jl_modinfo.specs.Rules.{granted, implementing};
 ghost use Rattle.jl_modinfo.specs.Rules as rules;
 
 use crate::fault::InfoFault;
-use crate::stand_in::package_of;
 use indexmap::IndexSet;
+use jl_names::package_of;
 use jl_prim::{Copied, CopyEnd, Declaration, Grant, Items, Name, Provides, Requires};
 use std::alloc::Global;
 
@@ -44,7 +47,7 @@ fn is_base_right(name: &str, required: &[Requires]) -> bool
 
 /// Whether one of the entries is for the module with this name.
 fn is_required(required: &[Requires], name: &str) -> bool
-    ensures { result ≡ is_among name.now (map (λ (r : Requires). r.name) required.now) }
+    ensures { result ≡ list_any (λ (r : Requires). is_text r.name name.now) required.now }
 {
     required.iter().any(|entry| entry.name.as_str() == name)
 }
@@ -55,12 +58,24 @@ fn missing_package(alloc: Global, d: &Declaration) -> Result<Option<Name>, InfoF
 {
     let named = named_packages(alloc, d)?;
     let packages = set_of(alloc, d.packages.as_slice())?;
-    for package in named.as_slice() {
-        if !packages.contains(package) {
-            return Ok(Some(package.copy()?));
-        }
+    match first_outside(named.as_slice(), &packages) {
+        Some(package) => Ok(Some(package.copy()?)),
+        None => Ok(None),
     }
-    Ok(None)
+}
+
+/// The first name that the set has not.
+fn first_outside<'a>(names: &'a [Name], all: &IndexSet<Name>) -> Option<&'a Name>
+    ensures { option_copied result ≡ find (λ name. not (list_any (pointwise nat_eq name) all.now.keys)) names.now }
+{
+    let mut rest = names;
+    while let [name, others @ ..] = rest {
+        if !all.contains(name) {
+            return Some(name);
+        }
+        rest = others;
+    }
+    None
 }
 
 /// The set of these names.
@@ -68,8 +83,10 @@ fn set_of(alloc: Global, names: &[Name]) -> Result<IndexSet<Name>, CopyEnd>
     ensures { IfOk result (λ all. (name : List ℕ) → list_any (pointwise nat_eq name) all.keys ≡ is_among name names.now) }
 {
     let mut all = IndexSet::new(alloc);
-    for name in names {
+    let mut rest = names;
+    while let [name, others @ ..] = rest {
         all.insert(name.copy()?)?;
+        rest = others;
     }
     Ok(all)
 }
@@ -87,10 +104,12 @@ fn named_packages(alloc: Global, d: &Declaration) -> Result<Items<Name>, InfoFau
 
 fn add_granted(named: &mut Items<Name>, grants: &[Grant]) -> Result<(), InfoFault>
     ensures ok { OnOk result (named.new ≡ named.old ++ granted grants.now) }
-    ensures err { IfErr result (λ e. e ≡ InfoFault.NoMemory) }
+    ensures err { IfErr result (λ e. e ≡ NoMemory) }
 {
-    for grant in grants {
+    let mut rest = grants;
+    while let [grant, others @ ..] = rest {
         named.push(grant.package.copy()?)?;
+        rest = others;
     }
     Ok(())
 }
@@ -101,20 +120,24 @@ fn add_implementing(
     provides: &[Provides],
 ) -> Result<(), InfoFault>
     ensures ok { OnOk result (named.new ≡ named.old ++ implementing provides.now) }
-    ensures err { IfErr result (λ e. e ≡ InfoFault.NoMemory) }
+    ensures err { IfErr result (λ e. e ≡ NoMemory) }
 {
-    for provided in provides {
+    let mut rest = provides;
+    while let [provided, others @ ..] = rest {
         add_packages(alloc, named, provided.implementations.as_slice())?;
+        rest = others;
     }
     Ok(())
 }
 
 fn add_packages(alloc: Global, named: &mut Items<Name>, classes: &[Name]) -> Result<(), InfoFault>
     ensures ok { OnOk result (named.new ≡ named.old ++ map package_in classes.now) }
-    ensures err { IfErr result (λ e. e ≡ InfoFault.NoMemory) }
+    ensures err { IfErr result (λ e. e ≡ NoMemory) }
 {
-    for class in classes {
+    let mut rest = classes;
+    while let [class, others @ ..] = rest {
         named.push(package(alloc, class)?)?;
+        rest = others;
     }
     Ok(())
 }

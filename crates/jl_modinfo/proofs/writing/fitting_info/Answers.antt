@@ -29,7 +29,7 @@ returns-in-Ok c =
 pub returns-in-Err-TooMany : goal.returns-in-Err-TooMany
 returns-in-Err-TooMany c =
     let told : fitting (with_all [] c.deref.result.now) ≡ Err ends.TooMany =
-        subst (λ (e : BuildEnd). Fails build_told e (fitting (with_all [] c.deref.result.now))) c.in-Err-TooMany.field-0-is c.in-Err-TooMany.ensures in
+    subst (λ (e : BuildEnd). Fails build_told e (fitting (with_all [] c.deref.result.now))) c.in-Err-TooMany.field-0-is c.in-Err-TooMany.ensures in
     let fails = ap (λ (cs : List Constant). fitting (with_all [] cs)) (sym (c.deref.ensures.value ∙ c.in_ok-constants.ensures.constants)) ∙ told in
     record {
       refused = refused_as c.too_long.result (Some (codes "pool")) (too_many c.args.d.now) (sym (refused_pool c.args.d.now c.requires.tables fails)) c.too_long.ensures;
