@@ -15,3 +15,6 @@ pub mod EntryLaws
 pub mod BodyLaws
 pub mod AttributeLaws
 pub mod FileLaws
+pub mod IndexLaws
+pub mod BodyWritten
+pub mod FileWritten

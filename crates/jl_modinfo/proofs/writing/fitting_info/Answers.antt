@@ -10,6 +10,9 @@ use Rattle.jl_modinfo.specs.Layout.{with_all}
 use Rattle.jl_modinfo.specs.Writing.{too_many}
 use Rattle.jl_modinfo.proofs.LimitLaws.{are_few}
 use Rattle.jl_modinfo.proofs.NeedLaws.{refused_pool, refused_none, refused_as, accepted_unless, all_short}
+use Rattle.jl_modinfo.proofs.IndexLaws.{all_there, class_there, module_there, package_there, class_text_there}
+use Rattle.jl_modinfo.proofs.BodyWritten.{body_is, body_same}
+use Rattle.jl_modinfo.proofs.FileWritten.{pool_same}
 use Rattle.jl_modinfo.proofs.writing.fitting_info.Goals as goal
 
 pub entered-requires : goal.entered-requires
