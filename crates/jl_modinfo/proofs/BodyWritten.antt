@@ -1,6 +1,6 @@
 -- The rows that are written declare the entries that they were made of.
-use Rattle.std.proofs.Common.{◌≡◌, ℕ, zero, suc, ◌+◌, ◌<◌, Bool, true, false, ◌==◌, List, [], ◌∷◌, ◌++◌, map, length, Option, None, Some, refl, sym, ap, ap₂, subst, ◌∙◌, arith, inl, inr}
-use Rattle.std.specs.Prelude.{IsTrue, codes, bit_and, if◌then◌else◌}
+use Rattle.std.proofs.Common.{◌≡◌, ℕ, ◌+◌, ◌<◌, Bool, true, false, ◌==◌, List, [], ◌∷◌, ◌++◌, map, length, Option, None, Some, refl, sym, ap, ap₂, subst, ◌∙◌, arith}
+use Rattle.std.specs.Prelude.{IsTrue, if◌then◌else◌}
 use Rattle.std.specs.List.{flat_map, AllByRecursion}
 use Rattle.std.specs.Option.{option_and_then}
 use Rattle.std.proofs.lemmas.Bool.{ne_eqb}
@@ -8,7 +8,7 @@ use Rattle.std.proofs.lemmas.List.{length-map}
 use Rattle.std.proofs.lemmas.List.Concat.{flat_map-cons}
 use Rattle.std.proofs.lemmas.List.Folds.{flat_map-map}
 use Rattle.jl_logic.specs.Lists.{AreDistinct}
-use Rattle.jl_reading.specs.Reading.{two, four}
+use Rattle.jl_reading.specs.Reading.{two}
 use Rattle.jl_prim.specs.Names.{names_a_module}
 use Rattle.jl_prim.specs.declared.declaration.Requires.{Requires}
 use Rattle.jl_prim.specs.declared.declaration.Grant.{Grant}
@@ -17,11 +17,11 @@ use Rattle.jl_prim.specs.declared.declaration.Declaration.{Declaration}
 use Rattle.jl_names.specs.Names.{names_a_class}
 use Rattle.jl_pool.specs.declared.constant.Constant.{Constant}
 use Rattle.jl_pool.specs.declared.constant.Constant.TheVariants as constants
-use Rattle.jl_pool.specs.Builder.{has, index_of, index_in, pool_of, AreKept}
+use Rattle.jl_pool.specs.Builder.{has, index_in, pool_of, AreKept}
 use Rattle.jl_modinfo.specs.Meaning.{module_named, package_named, class_named, version_named, is_set, targets_of}
-use Rattle.jl_modinfo.specs.Info.{RequiresRow, GrantRow, ProvidesRow, Body, counted, requires_bytes, grant_bytes, provides_bytes, body_bytes, Match, Names, NameAll, IsRequires, IsGrant, IsProvides, IsTable, IsBody}
+use Rattle.jl_modinfo.specs.Info.{counted, requires_bytes, grant_bytes, provides_bytes, body_bytes, Match, Names, NameAll, IsRequires, IsGrant, IsProvides, IsBody}
 use Rattle.jl_modinfo.specs.Writing.{targets, IsFineGrant, IsFineProvides, KeepsRules}
-use Rattle.jl_modinfo.specs.Layout.{module_constant, class_constant, package_constant, required_constant, grant_constants, provides_constants, front_constants, table_constants, back_constants, named_constants, version_constants, module_index, class_index, package_index, version_index, requires_flags, requires_row, grant_row, provides_row, body_of, counted_by, module_bytes, class_bytes, package_bytes, requires_written, grant_written, provides_written, tables_written, body_written, AreFew}
+use Rattle.jl_modinfo.specs.Layout.{module_constant, class_constant, package_constant, required_constant, grant_constants, provides_constants, front_constants, table_constants, back_constants, named_constants, version_constants, module_index, class_index, package_index, version_index, requires_row, grant_row, provides_row, body_of, counted_by, class_bytes, package_bytes, requires_written, grant_written, provides_written, body_written, AreFew}
 use Rattle.jl_modinfo.proofs.IndexLaws.{class_there, module_there, package_there, text_there, index_is, small}
 
 -- ---- lists

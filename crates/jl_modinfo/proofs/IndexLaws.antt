@@ -1,18 +1,17 @@
 -- The indices of the constants of a pool have their names.
-use Rattle.std.proofs.Common.{◌≡◌, ℕ, ◌+◌, ◌<◌, Bool, true, false, ◌&&◌, ◌||◌, List, [], ◌∷◌, ◌++◌, map, length, Option, None, Some, refl, sym, ap, subst, ◌∙◌, arith, inl, inr}
-use Rattle.std.specs.Prelude.{IsTrue, IsUtf8, option_map, if◌then◌else◌}
-use Rattle.std.specs.List.{list_any, flat_map, AllByRecursion}
+use Rattle.std.proofs.Common.{◌≡◌, ℕ, ◌<◌, Bool, true, List, [], ◌∷◌, Option, Some, refl, sym, ap, subst, ◌∙◌, inl, inr}
+use Rattle.std.specs.Prelude.{IsUtf8, option_map, if◌then◌else◌}
+use Rattle.std.specs.List.{AllByRecursion}
 use Rattle.std.specs.Option.{option_and_then}
 use Rattle.std.proofs.lemmas.Bool.{cases_Bool}
-use Rattle.std.proofs.lemmas.List.Concat.{flat_map-cons}
-use Rattle.jl_names.specs.Text.{plain, has_no_lone_surrogate}
+use Rattle.jl_names.specs.Text.{plain}
 use Rattle.jl_names.specs.Utf16.{utf16}
 use Rattle.jl_names.specs.Names.{names_a_class}
 use Rattle.jl_names.proofs.Utf16Laws.{utf16_back, utf16_paired}
 use Rattle.jl_prim.specs.Names.{names_a_module}
 use Rattle.jl_pool.specs.declared.constant.Constant.{Constant}
 use Rattle.jl_pool.specs.declared.constant.Constant.TheVariants as constants
-use Rattle.jl_pool.specs.Pool.{utf8_of, utf8_units, text_of, class_of, class_name, module_of, module_name, package_of, package_name}
+use Rattle.jl_pool.specs.Pool.{utf8_of, utf8_units, text_of, class_name, module_name, package_name}
 use Rattle.jl_pool.specs.Builder.{is_same, text_in, has, with_constant, with_needed, index_of, index_in, pool_of, IsKept, AreKept}
 use Rattle.jl_pool.proofs.BuilderLaws.{same_is, has_kept, has_new}
 use Rattle.jl_pool.proofs.PoolLaws.{entry_there, index_fits}

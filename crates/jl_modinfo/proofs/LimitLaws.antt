@@ -1,13 +1,13 @@
 -- The first table that is too long.
-use Rattle.std.proofs.Common.{◌≡◌, ℕ, ◌<◌, arith, Bool, true, false, ◌||◌, List, [], ◌∷◌, ◌++◌, length, map, Option, None, Some, refl, sym, ap, ap₂, ◌∙◌, inl, inr}
-use Rattle.std.specs.Prelude.{codes, find, nat_lt, if◌then◌else◌}
+use Rattle.std.proofs.Common.{◌≡◌, ℕ, ◌<◌, arith, Bool, true, false, List, [], ◌∷◌, ◌++◌, length, map, Option, None, Some, refl, sym, ap, ◌∙◌, inl, inr}
+use Rattle.std.specs.Prelude.{codes, nat_lt, if◌then◌else◌}
 use Rattle.std.specs.List.{list_any, AllByRecursion}
 use Rattle.std.proofs.lemmas.Bool.{cases_Bool, ltb-false}
 use Rattle.jl_prim.specs.declared.declaration.Grant.{Grant}
 use Rattle.jl_prim.specs.declared.declaration.Provides.{Provides}
 use Rattle.jl_prim.specs.declared.declaration.Declaration.{Declaration}
 use Rattle.jl_modinfo.specs.Writing.{Counted, targets, target_counts, class_counts, tables}
-use Rattle.jl_modinfo.specs.Layout.{is_long, first_long, has_long_targets, has_long_classes, or_else, named_if, long_of_grants, long_behind_grants, long_in_file, AreTargetsFew, AreClassesFew, AreFew}
+use Rattle.jl_modinfo.specs.Layout.{first_long, has_long_targets, has_long_classes, or_else, named_if, long_of_grants, long_behind_grants, long_in_file, AreTargetsFew, AreClassesFew, AreFew}
 
 -- one table before others
 one_long : (name : List ℕ) (n : ℕ) (rest : List Counted) → or_else (named_if name (nat_lt 65535 n)) (first_long rest) ≡ first_long ((name, n) ∷ rest)

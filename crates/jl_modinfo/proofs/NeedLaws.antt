@@ -1,5 +1,5 @@
 -- What a declaration needs, as constants, and how many there are.
-use Rattle.std.proofs.Common.{◌≡◌, ℕ, ◌+◌, ◌<◌, ◌≤◌, Bool, true, false, List, [], ◌∷◌, ◌++◌, length, map, Option, None, Some, refl, inl, inr, sym, ap, ap₂, subst, ◌∙◌, append_assoc, arith}
+use Rattle.std.proofs.Common.{◌≡◌, ℕ, ◌+◌, Bool, List, [], ◌∷◌, ◌++◌, length, map, Option, None, Some, refl, inl, inr, sym, ap, ap₂, subst, ◌∙◌, append_assoc, arith}
 use Rattle.std.specs.Prelude.{Result, Ok, Err, IsOkUnless, codes, find, nat_lt, if◌then◌else◌}
 use Rattle.std.specs.List.{flat_map, AllByRecursion}
 use Rattle.std.specs.Option.{option_to_list}
@@ -17,7 +17,7 @@ use Rattle.jl_pool.specs.Builder.{text_in, IsShort, fitting}
 use Rattle.jl_logic.specs.Answers.{Gives}
 use Rattle.jl_modinfo.specs.declared.fault.InfoWriteFault.{InfoWriteFault}
 use Rattle.jl_modinfo.specs.declared.fault.InfoWriteFault.TheVariants as faults
-use Rattle.jl_modinfo.specs.Writing.{Need, Counted, text_need, class_need, module_need, package_need, targets, grant_needs, provides_needs, main_needs, named, with_text, needed, each_once, pool_count, tables, too_many, AreShort, accepted, write_told}
+use Rattle.jl_modinfo.specs.Writing.{Need, Counted, text_need, class_need, module_need, package_need, targets, grant_needs, provides_needs, main_needs, named, with_text, each_once, pool_count, tables, too_many, AreShort, accepted, write_told}
 use Rattle.jl_modinfo.specs.Layout.{need_of, module_constant, class_constant, package_constant, required_constant, grant_constants, provides_constants, main_constants, version_constants, front_constants, table_constants, back_constants, named_constants, with_all, first_long}
 use Rattle.jl_modinfo.proofs.WritingLaws.{parts, length_all, fitting_is, fitting_not}
 

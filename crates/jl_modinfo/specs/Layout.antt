@@ -11,7 +11,7 @@ use Rattle.jl_pool.specs.declared.constant.Constant.TheVariants as constants
 use Rattle.jl_pool.specs.Builder.{index_in, pool_of, with_needed}
 use Rattle.jl_pool.specs.Spelling.{entry_bytes}
 use Rattle.jl_modinfo.specs.Info.{RequiresRow, GrantRow, ProvidesRow, Body, Attribute, counted, body_bytes, back_bytes}
-use Rattle.jl_modinfo.specs.Writing.{Need, Counted, targets, target_counts, class_counts}
+use Rattle.jl_modinfo.specs.Writing.{Need, Counted, targets}
 
 -- ---- constants
 

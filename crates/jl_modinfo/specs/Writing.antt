@@ -1,7 +1,7 @@
 -- Writing a declaration: which table has too many entries, which entries the pool needs, and which declarations keep the rules (JVMS 4.1, 4.4, 4.7.25 to 4.7.27).
-use Rattle.std.specs.Prelude.{◌≡◌, ℕ, ◌+◌, ◌<◌, nat_lt, List, [], ◌∷◌, ◌++◌, length, map, find, Option, None, Some, Result, Ok, Err, Bool, true, false, not, ◌&&◌, ◌==◌, IsTrue, codes, ⊤, if◌then◌else◌}
+use Rattle.std.specs.Prelude.{◌≡◌, ℕ, ◌+◌, ◌<◌, nat_lt, List, [], ◌∷◌, ◌++◌, length, map, find, Option, None, Some, Result, Ok, Err, Bool, true, ◌&&◌, ◌==◌, IsTrue, codes, ⊤, if◌then◌else◌}
 use Rattle.std.specs.List.{flat_map, list_any, AllByRecursion}
-use Rattle.std.specs.Option.{option_map, option_to_list}
+use Rattle.std.specs.Option.{option_to_list}
 use Rattle.jl_logic.specs.Order.{is_text}
 use Rattle.jl_logic.specs.Lists.{AreDistinct}
 use Rattle.jl_prim.specs.Names.{names_a_module}

@@ -1,9 +1,11 @@
 //! Writing a declaration file (JVMS 4.1, 4.7.25 to 4.7.27).
 
-ghost use Rattle.std.specs.Prelude.{◌≡◌, ◌≤◌, ◌<◌, ◌++◌, length, None, Some, IfOk, OnOk, IsOkUnless, if◌then◌else◌};
+ghost use Rattle.std.specs.Prelude.{◌≡◌, ◌≤◌, ◌<◌, ◌++◌, List, ℕ, length, None, Some, IfOk, OnOk, IsOkUnless, if◌then◌else◌};
 ghost use Rattle.jl_logic.specs.Answers.{Gives};
 ghost use Rattle.jl_reading.specs.Reading.{two};
-ghost use Rattle.jl_modinfo.specs.Writing.{write_told, accepted, tables, too_many, AreShort, members};
+ghost use Rattle.jl_modinfo.specs.Writing.{write_told, accepted, tables, too_many, AreShort, members, KeepsRules};
+ghost use Rattle.jl_modinfo.specs.Info.{IsInfo};
+ghost use Rattle.jl_pool.specs.Builder.{AreKept};
 ghost use Rattle.jl_modinfo.specs.Layout.{AreFew, first_long, counted_by, package_bytes, version_index, head_written, tables_written, body_written, attribute_written, main_written, attribute_count, attributes_written, class_written, front_written, pool_written, file_written};
 
 use crate::entering::entered;
@@ -33,6 +35,8 @@ pub fn write_info(alloc: Global, d: &Declaration) -> Result<Vec<u8>, InfoWriteFa
     requires few { members d.now ≤ 16777216 }
     // Which table has too many entries, exactly.
     ensures refused { Gives write_told (λ _. tt) result (accepted (too_many d.now)) }
+    // What is written is read as the same declaration, whatever was found.
+    ensures back { IfOk result (λ bytes. KeepsRules d.now → (found : List (List ℕ)) → IsInfo bytes.items found d.now) }
 {
     match long_table(d) {
         Some(table) => too_long(alloc, table),
@@ -45,6 +49,8 @@ fn fitting_info(alloc: Global, d: &Declaration) -> Result<Vec<u8>, InfoWriteFaul
     requires short { AreShort d.now }
     requires tables { first_long (tables d.now) ≡ None }
     ensures refused { Gives write_told (λ _. tt) result (accepted (too_many d.now)) }
+    // What is written is read as the same declaration, whatever was found.
+    ensures back { IfOk result (λ bytes. KeepsRules d.now → (found : List (List ℕ)) → IsInfo bytes.items found d.now) }
 {
     let constants = constants_of(alloc, d)?;
     match entered(alloc, &constants) {
@@ -64,6 +70,9 @@ fn too_long<T>(alloc: Global, table: &str) -> Result<T, InfoWriteFault>
 fn written(alloc: Global, pool: &PoolBuilder, d: &Declaration) -> Result<Vec<u8>, InfoWriteFault>
     requires { AreFew d.now }
     ensures bytes { IfOk result (λ bytes. bytes.items ≡ file_written pool.now d.now) }
+    ensures kept { IfOk result (λ _. AreKept pool.now) }
+    ensures body { IfOk result (λ _. length (body_written pool.now d.now) < 4294967296) }
+    ensures packages { IfOk result (λ _. length (counted_by (package_bytes pool.now) d.now.packages) < 4294967296) }
     ensures memory { IsOkUnless result InfoWriteFault.NoMemory }
 {
     let mut bytes = Vec::new(alloc);
@@ -86,6 +95,7 @@ fn push_front(bytes: &mut Vec<u8>) -> Result<(), InfoWriteFault>
 
 fn push_pool(alloc: Global, bytes: &mut Vec<u8>, pool: &PoolBuilder) -> Result<(), InfoWriteFault>
     ensures bytes { OnOk result (bytes.new.items ≡ bytes.old.items ++ pool_written pool.now) }
+    ensures kept { OnOk result (AreKept pool.now) }
     ensures memory { IsOkUnless result InfoWriteFault.NoMemory }
 {
     let entries = pool.finish(alloc)?;
@@ -127,6 +137,8 @@ fn push_attributes(
 ) -> Result<(), InfoWriteFault>
     requires { AreFew d.now }
     ensures bytes { OnOk result (bytes.new.items ≡ bytes.old.items ++ attributes_written pool.now d.now) }
+    ensures body { OnOk result (length (body_written pool.now d.now) < 4294967296) }
+    ensures packages { OnOk result (length (counted_by (package_bytes pool.now) d.now.packages) < 4294967296) }
     ensures memory { IsOkUnless result InfoWriteFault.NoMemory }
 {
     push_u16(bytes, attribute_count_of(&d.main))?;
@@ -153,6 +165,7 @@ fn push_attribute(
     content: &[u8],
 ) -> Result<(), InfoWriteFault>
     ensures bytes { OnOk result (bytes.new.items ≡ bytes.old.items ++ attribute_written pool.now name.now content.now) }
+    ensures fits { OnOk result (length content.now < 4294967296) }
     ensures memory { IsOkUnless result InfoWriteFault.NoMemory }
 {
     push_index(bytes, pool, Constant::Text(Name::from_text(alloc, name)?))?;

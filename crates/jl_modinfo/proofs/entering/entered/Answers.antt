@@ -1,11 +1,9 @@
-use Rattle.std.proofs.Common.{◌≡◌, ◌∙◌, Ok, [], sym, ap, subst, take, length, get_or}
-use Rattle.std.specs.List.{AllByRecursion}
+use Rattle.std.proofs.Common.{◌≡◌, ◌∙◌, Ok, [], sym, ap, subst}
 use Rattle.std.proofs.lemmas.List.{take_all}
 use Rattle.std.proofs.lemmas.List.Elements.{All-from_recursion, All-get_or}
 use Rattle.std.proofs.lemmas.Result.{err_from_is_err_and}
-use Rattle.jl_logic.specs.Answers.{Fails}
 use Rattle.jl_pool.specs.declared.constant.Constant.{Constant}
-use Rattle.jl_pool.specs.Builder.{IsShort, text_in, fitting, with_needed, build_told}
+use Rattle.jl_pool.specs.Builder.{IsShort, text_in, fitting, with_needed}
 use Rattle.jl_modinfo.specs.Layout.{with_all}
 use Rattle.jl_modinfo.proofs.WritingLaws.{entered_more, entered_told}
 use Rattle.jl_modinfo.proofs.entering.entered.Goals as goal

@@ -1,18 +1,18 @@
-use Rattle.std.proofs.Common.{◌≡◌, List, [], Ok, Err, Some, sym, ap, ◌∙◌, subst}
+use Rattle.std.proofs.Common.{◌≡◌, true, List, [], Err, Some, sym, ap, ◌∙◌, subst}
 use Rattle.std.specs.Prelude.{codes}
 use Rattle.std.specs.List.{AllByRecursion}
 use Rattle.jl_pool.specs.declared.constant.Constant.{Constant}
 use Rattle.jl_logic.specs.Answers.{Fails}
 use Rattle.jl_pool.specs.declared.constant.BuildEnd.{BuildEnd}
 use Rattle.jl_pool.specs.declared.constant.BuildEnd.TheVariants as ends
-use Rattle.jl_pool.specs.Builder.{IsShort, text_in, fitting, build_told}
-use Rattle.jl_modinfo.specs.Layout.{with_all}
+use Rattle.jl_pool.specs.Builder.{IsShort, text_in, fitting, has, build_told}
+use Rattle.jl_modinfo.specs.Layout.{with_all, named_constants}
 use Rattle.jl_modinfo.specs.Writing.{too_many}
 use Rattle.jl_modinfo.proofs.LimitLaws.{are_few}
 use Rattle.jl_modinfo.proofs.NeedLaws.{refused_pool, refused_none, refused_as, accepted_unless, all_short}
-use Rattle.jl_modinfo.proofs.IndexLaws.{all_there, class_there, module_there, package_there, class_text_there}
-use Rattle.jl_modinfo.proofs.BodyWritten.{body_is, body_same}
-use Rattle.jl_modinfo.proofs.FileWritten.{pool_same}
+use Rattle.jl_modinfo.proofs.IndexLaws.{all_there}
+use Rattle.jl_modinfo.proofs.WritingLaws.{fitting_is}
+use Rattle.jl_modinfo.proofs.FileWritten.{written_back, refused_never}
 use Rattle.jl_modinfo.proofs.writing.fitting_info.Goals as goal
 
 pub entered-requires : goal.entered-requires
@@ -27,6 +27,9 @@ returns-in-Ok c =
     let fits = ap (λ (cs : List Constant). fitting (with_all [] cs)) (sym (c.deref.ensures.value ∙ c.in_ok-constants.ensures.constants)) ∙ c.in-Ok.ensures in
     record {
       refused = accepted_unless c.written.result (too_many c.args.d.now) c.written.ensures.memory (refused_none c.args.d.now c.in-Ok.pool c.requires.tables fits);
+      back = written_back (λ bytes. bytes.items) c.written.result c.in-Ok.pool c.args.d.now
+          (subst (λ (cs : List Constant). AllByRecursion (λ (x : Constant). has cs x ≡ true) (named_constants c.args.d.now)) (fitting_is (with_all [] (named_constants c.args.d.now)) c.in-Ok.pool fits).0 (all_there (named_constants c.args.d.now) []))
+          (are_few c.args.d.now c.requires.tables) c.written.ensures.bytes c.written.ensures.kept c.written.ensures.body c.written.ensures.packages;
     }
 
 pub returns-in-Err-TooMany : goal.returns-in-Err-TooMany
@@ -36,4 +39,5 @@ returns-in-Err-TooMany c =
     let fails = ap (λ (cs : List Constant). fitting (with_all [] cs)) (sym (c.deref.ensures.value ∙ c.in_ok-constants.ensures.constants)) ∙ told in
     record {
       refused = refused_as c.too_long.result (Some (codes "pool")) (too_many c.args.d.now) (sym (refused_pool c.args.d.now c.requires.tables fails)) c.too_long.ensures;
+      back = refused_never _ c.too_long.result (codes "pool") c.too_long.ensures;
     }
