@@ -1,6 +1,10 @@
 mod Rows
 mod TextRows
 pub mod Standing
+pub mod WritingLaws
+pub mod MoreLaws
+pub mod LimitLaws
+pub mod NeedLaws
 pub mod NameLaws
 pub mod AttributesLoop
 pub mod OnceLaws
@@ -11,3 +15,6 @@ pub mod EntryLaws
 pub mod BodyLaws
 pub mod AttributeLaws
 pub mod FileLaws
+pub mod IndexLaws
+pub mod BodyWritten
+pub mod FileWritten

@@ -4,3 +4,5 @@ pub mod Rules
 pub mod Reading
 pub mod Kinds
 pub mod Info
+pub mod Writing
+pub mod Layout

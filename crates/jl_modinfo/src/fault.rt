@@ -1,11 +1,12 @@
-//! Why a declaration was not read.
+//! Why a declaration was not read or written.
 
 ghost use Rattle.std.specs.Prelude.{◌≡◌, Err};
 ghost use Rattle.jl_logic.specs.Answers.{Gives};
 ghost use Rattle.jl_modinfo.specs.declared.fault.InfoFault.TheVariants.{NotModule, Repeated, NoMemory};
+ghost use Rattle.jl_modinfo.specs.declared.fault.InfoWriteFault.TheVariants as writes;
 ghost use Rattle.jl_modinfo.specs.Faults.{told, of_pool};
 
-use jl_pool::PoolFault;
+use jl_pool::{BuildEnd, PoolFault, PoolWriteFault};
 use jl_prim::{CopyEnd, Name, PushEnd};
 use jl_reading::Fault;
 use std::alloc::{AllocError, AllocFailed, Global};
@@ -38,6 +39,57 @@ pub enum InfoFault {
     Trailing,
     /// There was no memory for the declaration.
     NoMemory,
+}
+
+/// Why a declaration was not written.
+#[derive(Debug, PartialEq, Drop)]
+pub enum InfoWriteFault {
+    /// The first of requires, exports, targets, opens, uses, provides, implementations and packages in a
+    /// file, or else the pool, that would have more than 65,535 entries.
+    TooMany(Name),
+    /// There was no memory for the file.
+    NoMemory,
+}
+
+impl From<AllocError> for InfoWriteFault {
+    ghost from_gives = { λ _ e. e ≡ writes.NoMemory };
+
+    fn from(_e: AllocError) -> InfoWriteFault {
+        InfoWriteFault::NoMemory
+    }
+}
+
+impl<T: Drop> From<AllocFailed<T>> for InfoWriteFault {
+    ghost from_gives = { λ _ e. e ≡ writes.NoMemory };
+
+    fn from(_e: AllocFailed<T>) -> InfoWriteFault {
+        InfoWriteFault::NoMemory
+    }
+}
+
+impl From<CopyEnd> for InfoWriteFault {
+    ghost from_gives = { λ _ e. e ≡ writes.NoMemory };
+
+    fn from(_e: CopyEnd) -> InfoWriteFault {
+        InfoWriteFault::NoMemory
+    }
+}
+
+impl From<BuildEnd> for InfoWriteFault {
+    ghost from_gives = { λ _ e. e ≡ writes.NoMemory };
+
+    // of a pool that is built already only memory can be wanting
+    fn from(_e: BuildEnd) -> InfoWriteFault {
+        InfoWriteFault::NoMemory
+    }
+}
+
+impl From<PoolWriteFault> for InfoWriteFault {
+    ghost from_gives = { λ _ e. e ≡ writes.NoMemory };
+
+    fn from(_e: PoolWriteFault) -> InfoWriteFault {
+        InfoWriteFault::NoMemory
+    }
 }
 
 impl Fault for InfoFault {

@@ -2,20 +2,28 @@
 #![tactic(auto)]
 
 mod attribute;
+mod entering;
 mod fault;
 mod front;
 mod grants;
 mod kind;
+mod limits;
 mod meaning;
 mod module;
+mod named;
 mod names;
 mod provides;
 mod reading;
 mod rules;
 mod table;
+mod tables;
+mod writing;
 
-pub use fault::InfoFault;
+pub use fault::{InfoFault, InfoWriteFault};
 pub use reading::read_info;
+pub use writing::write_info;
 
 #[cfg(test)]
 mod tests;
+#[cfg(test)]
+mod writing_tests;
