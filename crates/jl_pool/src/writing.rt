@@ -3,13 +3,14 @@
 ghost use Rattle.std.specs.Prelude.{◌≡◌, ◌<◌, ◌++◌, length, IfOk, OnOk, IsOkUnless};
 ghost use Rattle.std.specs.List.{flat_map, AllByRecursion};
 ghost use Rattle.byteorder.specs.Endian.{big_bytes};
-ghost use Rattle.jl_names.specs.Text.{unit_bytes, text_bytes};
+ghost use Rattle.jl_names.specs.Text.{text_bytes};
 ghost use Rattle.jl_reading.specs.Reading.{two, four};
 ghost use Rattle.jl_pool.specs.Content.{entry_content};
 ghost use Rattle.jl_pool.specs.Spelling.{entry_bytes, EntryFits};
 
 use crate::entry::{Entry, Text};
 use crate::fault::PoolWriteFault;
+use jl_names::bytes_of;
 use std::alloc::Global;
 
 /// Writes a number in two bytes, the high one first, behind others.
@@ -54,45 +55,14 @@ fn push_handle(bytes: &mut Vec<u8>, kind: u8, member: u16) -> Result<(), PoolWri
     push_u16(bytes, member)
 }
 
-/// Writes the bytes of a unit behind others.
-fn push_unit(bytes: &mut Vec<u8>, unit: u16) -> Result<(), PoolWriteFault>
-    ensures bytes { OnOk result (bytes.new.items ≡ bytes.old.items ++ unit_bytes unit) }
-    ensures memory { IsOkUnless result PoolWriteFault.NoMemory }
-{
-    let last = 128 + (unit % 64) as u8;
-    if unit > 0 && unit < 128 {
-        bytes.push(unit as u8)?;
-    } else if unit < 2048 {
-        bytes.push(192 + (unit / 64) as u8)?;
-        bytes.push(last)?;
-    } else {
-        bytes.push(224 + (unit / 4096) as u8)?;
-        bytes.push(128 + (unit / 64 % 64) as u8)?;
-        bytes.push(last)?;
-    }
-    Ok(())
-}
-
-/// The modified UTF-8 of units (JVMS 4.4.7).
-fn bytes_of(alloc: Global, units: &[u16]) -> Result<Vec<u8>, PoolWriteFault>
-    ensures bytes { IfOk result (λ bytes. bytes.items ≡ text_bytes units.now) }
-    ensures memory { IsOkUnless result PoolWriteFault.NoMemory }
-{
-    let mut bytes = Vec::new(alloc);
-    let mut rest = units;
-    while let [unit, others @ ..] = rest {
-        push_unit(&mut bytes, *unit)?;
-        rest = others;
-    }
-    Ok(bytes)
-}
-
 fn push_text(alloc: Global, bytes: &mut Vec<u8>, text: &Text) -> Result<(), PoolWriteFault>
     requires { length (text_bytes text.now) < 65536 }
     ensures bytes { OnOk result (bytes.new.items ≡ bytes.old.items ++ (two (length (text_bytes text.now)) ++ text_bytes text.now)) }
     ensures memory { IsOkUnless result PoolWriteFault.NoMemory }
 {
-    let spelled = bytes_of(alloc, text.units().as_slice())?;
+    let Ok(spelled) = bytes_of(alloc, text.units().as_slice()) else {
+        return Err(PoolWriteFault::NoMemory);
+    };
     push_u16(bytes, spelled.len() as u16)?;
     bytes.extend_from_slice(&spelled)?;
     Ok(())

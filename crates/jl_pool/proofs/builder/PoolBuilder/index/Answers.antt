@@ -1,4 +1,4 @@
-use Rattle.std.proofs.Common.{◌≡◌, ◌∙◌, Bool, sym, ap, true≢false}
+use Rattle.std.proofs.Common.{◌∙◌, Bool, sym, ap, true≢false}
 use Rattle.std.specs.List.{list_any}
 use Rattle.jl_pool.specs.declared.constant.Constant.{Constant}
 use Rattle.jl_pool.specs.Builder.{has}
