@@ -102,33 +102,35 @@ fn denied(of_class: Option<Rule>, of_depth: Rule) -> Denied {
     }
 }
 
-/// Whether module 2 is open, to whom it exports and opens package q, and what is denied to a reader.
-fn table() -> [(bool, Option<Reached>, Option<Reached>, Denied); 12] {
-    let kept = denied(Some(Rule::NotExported), Rule::NotOpen);
-    let exported_away = denied(Some(Rule::NotExportedTo), Rule::NotOpen);
-    let opened_away = denied(Some(Rule::NotExportedTo), Rule::NotOpenTo);
-    let exported = denied(None, Rule::NotOpen);
-    let opened_half = denied(None, Rule::NotOpenTo);
-    let opened = [None, Some(Rule::ClassNotPublic), None, None, None, None];
-    [
-        (false, None, None, kept),
-        (false, Some(Reached::All), None, exported),
-        (false, Some(Reached::Caller), None, exported),
-        (false, Some(Reached::Other), None, exported_away),
-        (false, Some(Reached::Nobody), None, exported_away),
-        (false, None, Some(Reached::All), opened),
-        (false, None, Some(Reached::Caller), opened),
-        (false, None, Some(Reached::Other), opened_away),
-        (false, None, Some(Reached::Nobody), opened_away),
-        (false, Some(Reached::All), Some(Reached::Other), opened_half),
-        (
-            false,
-            Some(Reached::Caller),
-            Some(Reached::Nobody),
-            opened_half,
-        ),
-        (true, None, None, opened),
-    ]
+/// Every way to export or open a package, and not to.
+const REACHES: [Option<Reached>; 5] = [
+    None,
+    Some(Reached::All),
+    Some(Reached::Caller),
+    Some(Reached::Other),
+    Some(Reached::Nobody),
+];
+
+fn takes_in_caller(reached: Option<Reached>) -> bool {
+    matches!(reached, Some(Reached::All | Reached::Caller))
+}
+
+/// What is denied to a reader, where module 2 may be open and exports and opens package q so far.
+fn expected(is_open: bool, exports: Option<Reached>, opens: Option<Reached>) -> Denied {
+    let of_depth = match opens {
+        None => Rule::NotOpen,
+        Some(_) => Rule::NotOpenTo,
+    };
+    if is_open || takes_in_caller(opens) {
+        return [None, Some(Rule::ClassNotPublic), None, None, None, None];
+    }
+    if takes_in_caller(exports) {
+        return denied(None, of_depth);
+    }
+    if exports.is_none() && opens.is_none() {
+        return denied(Some(Rule::NotExported), of_depth);
+    }
+    denied(Some(Rule::NotExportedTo), of_depth)
 }
 
 /// The same to a module that does not read module 2: its classes are denied first for that.
@@ -202,14 +204,26 @@ fn is_denied(facts: &mut Facts, from: &Place, to: &Place, denied: Denied) -> Res
     Ok(before && is_judged(facts, from, to, &denied))
 }
 
-#[test]
-fn verdicts_between_modules(rt: HostRuntime) -> Result<(), Fail> {
-    let alloc = rt.alloc();
+fn are_denied(
+    alloc: Global,
+    is_open: bool,
+    exports: Option<Reached>,
+    opens: Option<Reached>,
+) -> Result<bool, Fail> {
     let from = class_in(alloc, CALLER, 1, "p")?;
     let to = class_in(alloc, OWNER, 1, "q")?;
-    for (is_open, exports, opens, denied) in table() {
-        let mut facts = placed(alloc, is_open, exports, opens)?;
-        assert!(rt; is_denied(&mut facts, &from, &to, denied)?);
+    let mut facts = placed(alloc, is_open, exports, opens)?;
+    is_denied(&mut facts, &from, &to, expected(is_open, exports, opens))
+}
+
+/// Every combination of exports, opens, an open module, and reading.
+#[test]
+fn verdicts_between_modules(rt: HostRuntime) -> Result<(), Fail> {
+    for exports in REACHES {
+        for opens in REACHES {
+            assert!(rt; are_denied(rt.alloc(), false, exports, opens)?);
+            assert!(rt; are_denied(rt.alloc(), true, exports, opens)?);
+        }
     }
     Ok(())
 }
