@@ -2,6 +2,7 @@
 #![tactic(auto)]
 
 mod end;
+mod finder;
 mod launching;
 mod law;
 #[cfg(test)]

@@ -1,3 +1,0 @@
-pub mod Paths
-pub mod Folders
-pub mod Observed
