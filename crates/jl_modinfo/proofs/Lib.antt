@@ -4,6 +4,7 @@ pub mod Standing
 pub mod WritingLaws
 pub mod MoreLaws
 pub mod LimitLaws
+pub mod MemberLaws
 pub mod NeedLaws
 pub mod NameLaws
 pub mod AttributesLoop

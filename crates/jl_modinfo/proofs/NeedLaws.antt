@@ -94,7 +94,7 @@ count_is d =
 
 -- ---- what is short
 
-need_text : (c : Constant) → (need_of c).1 ≡ text_in c
+pub need_text : (c : Constant) → (need_of c).1 ≡ text_in c
 need_text (constants.Text t) = refl
 need_text (constants.Class t) = refl
 need_text (constants.Module t) = refl

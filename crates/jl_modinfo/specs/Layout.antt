@@ -1,5 +1,5 @@
 -- The constants that a declaration names, and its parts by their indices, as they are written (JVMS 4.1, 4.7.25 to 4.7.27).
-use Rattle.std.specs.Prelude.{ℕ, ◌+◌, ◌<◌, List, [], ◌∷◌, ◌++◌, length, map, Option, None, Some, Bool, nat_lt, codes, if◌then◌else◌}
+use Rattle.std.specs.Prelude.{ℕ, ◌+◌, ◌<◌, List, [], ◌∷◌, ◌++◌, length, map, Option, None, Some, Bool, nat_lt, nat_le, codes, if◌then◌else◌}
 use Rattle.std.specs.List.{flat_map, list_any, AllByRecursion}
 use Rattle.jl_reading.specs.Reading.{two, four}
 use Rattle.jl_prim.specs.declared.declaration.Requires.{Requires}
@@ -8,7 +8,9 @@ use Rattle.jl_prim.specs.declared.declaration.Provides.{Provides}
 use Rattle.jl_prim.specs.declared.declaration.Declaration.{Declaration}
 use Rattle.jl_pool.specs.declared.constant.Constant.{Constant}
 use Rattle.jl_pool.specs.declared.constant.Constant.TheVariants as constants
-use Rattle.jl_pool.specs.Builder.{index_in, pool_of, with_needed}
+use Rattle.jl_names.specs.Text.{text_bytes}
+use Rattle.jl_names.specs.Utf16.{utf16}
+use Rattle.jl_pool.specs.Builder.{text_in, index_in, pool_of, with_needed}
 use Rattle.jl_pool.specs.Spelling.{entry_bytes}
 use Rattle.jl_modinfo.specs.Info.{RequiresRow, GrantRow, ProvidesRow, Body, Attribute, counted, body_bytes, back_bytes}
 use Rattle.jl_modinfo.specs.Writing.{Need, Counted, targets}
@@ -251,3 +253,19 @@ pub record AreFew (d : Declaration) : Type 0 where
   pub provides : length d.provides < 65536
   pub provided : AreClassesFew d.provides
   pub packages : length d.packages < 65536
+
+-- ---- what may be written
+
+-- a number, and one more than the most members that are written where it is more
+abbrev pub capped : ℕ → ℕ
+capped n = if nat_lt 16777216 n then 16777217 else n
+
+abbrev pub target_length : Grant → ℕ
+target_length g = length (targets g)
+
+abbrev pub class_length : Provides → ℕ
+class_length p = length p.implementations
+
+-- whether the bytes of its text fit the two bytes of their count
+abbrev pub is_short_constant : Constant → Bool
+is_short_constant c = nat_le (length (text_bytes (utf16 (text_in c)))) 65535

@@ -17,10 +17,12 @@ mod reading;
 mod rules;
 mod table;
 mod tables;
+mod writable;
 mod writing;
 
 pub use fault::{InfoFault, InfoWriteFault};
 pub use reading::read_info;
+pub use writable::is_writable;
 pub use writing::write_info;
 
 #[cfg(test)]

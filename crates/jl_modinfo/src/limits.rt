@@ -73,7 +73,7 @@ fn have_long_targets(grants: &[Grant]) -> bool
     grants.iter().any(|grant| target_count(grant) > MOST)
 }
 
-fn target_count(grant: &Grant) -> usize
+pub(crate) fn target_count(grant: &Grant) -> usize
     ensures { result ≡ length (targets grant.now) }
 {
     match &grant.to {
