@@ -93,7 +93,7 @@ module _ (cs : List Constant) (kept : AreKept cs) where
       }
   are_right one other (Some class) there_one there_other there fine lt_one lt_other =
       let three = module_three (pool_of cs) (named_attribute cs (codes "Module") one) (named_attribute cs (codes "ModulePackages") other) (named_attribute cs (codes "ModuleMainClass") (two (class_index cs class)))
-          (text_there cs kept (codes "Module") there_one) (text_there cs kept (codes "ModulePackages") there_other) (text_there cs kept (codes "ModuleMainClass") there.0) in
+      (text_there cs kept (codes "Module") there_one) (text_there cs kept (codes "ModulePackages") there_other) (text_there cs kept (codes "ModuleMainClass") there.0) in
       record {
         fit = (named_fits (codes "Module") one there_one lt_one, (named_fits (codes "ModulePackages") other there_other lt_other, (named_fits (codes "ModuleMainClass") (two (class_index cs class)) there.0 (omega arith), tt)));
         declared = three.0;
@@ -117,14 +117,14 @@ module _ (cs : List Constant) (kept : AreKept cs) where
       let rest = class_written cs ++ attributes_written cs d in
       let end = length front_written + length (pool_written cs) in
       let right = are_right body list d.main front.1.0 behind.0 main rules.main
-          (subst (λ (l : List ℕ). length l < 4294967296) (sym (body_same cs d)) lt_body)
-          (subst (λ (l : List ℕ). length l < 4294967296) (sym (counted_same two (package_index cs) (package_bytes cs) (λ n. refl) d.packages)) lt_packages) in
+      (subst (λ (l : List ℕ). length l < 4294967296) (sym (body_same cs d)) lt_body)
+      (subst (λ (l : List ℕ). length l < 4294967296) (sym (counted_same two (package_index cs) (package_bytes cs) (λ n. refl) d.packages)) lt_packages) in
       let pool_stands = stands_in front_written (pool_written cs) rest in
       let l = length-append front_written (pool_written cs ++ rest) in
       let m = length-append (pool_written cs) rest in
       let back = Stands-from_parts (file_written cs d) end rest [] (length (file_written cs d))
-          (ap (drop end) (sym (append_assoc front_written (pool_written cs) rest)) ∙ (drop_at (front_written ++ pool_written cs) rest end (length-append front_written (pool_written cs)) ∙ sym (append-nil rest)))
-          (omega (arith, l, m)) (omega arith) in
+      (ap (drop end) (sym (append_assoc front_written (pool_written cs) rest)) ∙ (drop_at (front_written ++ pool_written cs) rest end (length-append front_written (pool_written cs)) ∙ sym (append-nil rest)))
+      (omega (arith, l, m)) (omega arith) in
       record {
         minor = 0;
         major = 53;

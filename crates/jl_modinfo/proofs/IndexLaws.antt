@@ -35,9 +35,9 @@ all_there (x ∷ xs) cs = (stays xs (with_needed cs x) x (has_new (with_constant
 pub kept_of : (all cs : List Constant) (c : Constant) → AllByRecursion (IsKept all) cs → has cs c ≡ true → IsKept all c
 kept_of all [] c a e = absurd cc
 kept_of all (x ∷ xs) c a e = elim (cases_Bool (is_same c x)) [
-    | inl t ↦ subst (IsKept all) (sym (same_is c x t)) a.0
-    | inr f ↦ kept_of all xs c a.1 (rw f at e)
-  ]
+  | inl t ↦ subst (IsKept all) (sym (same_is c x t)) a.0
+  | inr f ↦ kept_of all xs c a.1 (rw f at e)
+]
 
 -- ---- names by their indices
 
@@ -65,25 +65,28 @@ module _ (cs : List Constant) (kept : AreKept cs) where
       ap (text_of (pool_of cs)) (index_is (constants.Text t) e) ∙ (ap (λ (o : Option (List ℕ)). option_map plain o) (units_at t e) ∙ ap (λ (n : List ℕ). Some n) (utf16_back t (utf8_in (constants.Text t) e)))
 
   pub class_there : (t : List ℕ) → has cs (constants.Class t) ≡ true → names_a_class t ≡ true → Names class_named (pool_of cs) (class_index cs t) t
-  class_there t e fine =
-      (small (constants.Class t) e,
-      ap (class_named (pool_of cs)) (index_is (constants.Class t) e)
-      ∙ (ap (λ o. option_and_then (units_that names_a_class) (option_and_then (utf8_of (pool_of cs)) (class_name o))) (entry_there cs (constants.Class t) e)
-      ∙ (ap (option_and_then (units_that names_a_class)) (units_at t (text_in_pool (constants.Class t) e)) ∙ units_named names_a_class t (utf8_in (constants.Class t) e) fine)))
+  class_there t e fine = (
+    small (constants.Class t) e,
+    ap (class_named (pool_of cs)) (index_is (constants.Class t) e)
+        ∙ (ap (λ o. option_and_then (units_that names_a_class) (option_and_then (utf8_of (pool_of cs)) (class_name o))) (entry_there cs (constants.Class t) e)
+        ∙ (ap (option_and_then (units_that names_a_class)) (units_at t (text_in_pool (constants.Class t) e)) ∙ units_named names_a_class t (utf8_in (constants.Class t) e) fine)),
+  )
 
   pub module_there : (t : List ℕ) → has cs (constants.Module t) ≡ true → names_a_module t ≡ true → Names module_named (pool_of cs) (module_index cs t) t
-  module_there t e fine =
-      (small (constants.Module t) e,
-      ap (module_named (pool_of cs)) (index_is (constants.Module t) e)
-      ∙ (ap (λ o. option_and_then (units_that names_a_module) (option_and_then (utf8_of (pool_of cs)) (module_name o))) (entry_there cs (constants.Module t) e)
-      ∙ (ap (option_and_then (units_that names_a_module)) (units_at t (text_in_pool (constants.Module t) e)) ∙ units_named names_a_module t (utf8_in (constants.Module t) e) fine)))
+  module_there t e fine = (
+    small (constants.Module t) e,
+    ap (module_named (pool_of cs)) (index_is (constants.Module t) e)
+        ∙ (ap (λ o. option_and_then (units_that names_a_module) (option_and_then (utf8_of (pool_of cs)) (module_name o))) (entry_there cs (constants.Module t) e)
+        ∙ (ap (option_and_then (units_that names_a_module)) (units_at t (text_in_pool (constants.Module t) e)) ∙ units_named names_a_module t (utf8_in (constants.Module t) e) fine)),
+  )
 
   pub package_there : (t : List ℕ) → has cs (constants.Package t) ≡ true → names_a_class t ≡ true → Names package_named (pool_of cs) (package_index cs t) t
-  package_there t e fine =
-      (small (constants.Package t) e,
-      ap (package_named (pool_of cs)) (index_is (constants.Package t) e)
-      ∙ (ap (λ o. option_and_then (units_that names_a_class) (option_and_then (utf8_of (pool_of cs)) (package_name o))) (entry_there cs (constants.Package t) e)
-      ∙ (ap (option_and_then (units_that names_a_class)) (units_at t (text_in_pool (constants.Package t) e)) ∙ units_named names_a_class t (utf8_in (constants.Package t) e) fine)))
+  package_there t e fine = (
+    small (constants.Package t) e,
+    ap (package_named (pool_of cs)) (index_is (constants.Package t) e)
+        ∙ (ap (λ o. option_and_then (units_that names_a_class) (option_and_then (utf8_of (pool_of cs)) (package_name o))) (entry_there cs (constants.Package t) e)
+        ∙ (ap (option_and_then (units_that names_a_class)) (units_at t (text_in_pool (constants.Package t) e)) ∙ units_named names_a_class t (utf8_in (constants.Package t) e) fine)),
+  )
 
   pub class_text_there : (t : List ℕ) → has cs (constants.Class t) ≡ true → class_text (pool_of cs) (class_index cs t) ≡ Some t
   class_text_there t e =

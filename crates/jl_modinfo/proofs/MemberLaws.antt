@@ -88,9 +88,10 @@ true_all (c ∷ cs) a =
 
 pub writable_is : (d : Declaration) (cs : List Constant) (fine : Bool) → cs ≡ named_constants d → fine ≡ list_all is_short_constant cs → capped (members d) ≤ 16777216 → IsTrue fine ↔ (AreShort d × (members d ≤ 16777216))
 writable_is d cs fine named_by is few_members =
-    let whole : fine ≡ list_all is_short_constant (named_constants d) = is ∙ ap (list_all is_short_constant) named_by in
-    (λ t. (subst (AllByRecursion (λ (n : Need). IsShort n.1)) (named_same d) (all_true (named_constants d) (sym whole ∙ t)), within (members d) few_members)
-    , λ p. whole ∙ true_all (named_constants d) (subst (AllByRecursion (λ (n : Need). IsShort n.1)) (sym (named_same d)) p.0))
+    let whole : fine ≡ list_all is_short_constant (named_constants d) = is ∙ ap (list_all is_short_constant) named_by in (
+      λ t. (subst (AllByRecursion (λ (n : Need). IsShort n.1)) (named_same d) (all_true (named_constants d) (sym whole ∙ t)), within (members d) few_members),
+      λ p. whole ∙ true_all (named_constants d) (subst (AllByRecursion (λ (n : Need). IsShort n.1)) (sym (named_same d)) p.0),
+    )
 
 pub never_writable : (d : Declaration) → 16777216 < capped (members d) → IsTrue false ↔ (AreShort d × (members d ≤ 16777216))
 never_writable d lt = (λ t. absurd (cc t), λ p. (let more = over (members d) lt in let le = p.1 in absurd (omega (arith, more, le))))

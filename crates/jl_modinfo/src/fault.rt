@@ -6,7 +6,6 @@ ghost use Rattle.jl_modinfo.specs.declared.fault.InfoFault.TheVariants.{NotModul
 ghost use Rattle.jl_modinfo.specs.declared.fault.InfoWriteFault.TheVariants as writes;
 ghost use Rattle.jl_modinfo.specs.Faults.{told, of_pool};
 
-use jl_names::TextFault;
 use jl_pool::{BuildEnd, PoolFault, PoolWriteFault};
 use jl_prim::{CopyEnd, Name, PushEnd};
 use jl_reading::Fault;
@@ -72,15 +71,6 @@ impl From<CopyEnd> for InfoWriteFault {
     ghost from_gives = { λ _ e. e ≡ writes.NoMemory };
 
     fn from(_e: CopyEnd) -> InfoWriteFault {
-        InfoWriteFault::NoMemory
-    }
-}
-
-impl From<TextFault> for InfoWriteFault {
-    ghost from_gives = { λ _ e. e ≡ writes.NoMemory };
-
-    // the text of a name is always units, so that only memory can be wanting
-    fn from(_e: TextFault) -> InfoWriteFault {
         InfoWriteFault::NoMemory
     }
 }

@@ -8,16 +8,12 @@ ghost use Rattle.jl_modinfo.specs.Layout.{capped, target_length, class_length, i
 use crate::fault::InfoWriteFault;
 use crate::limits::target_count;
 use crate::named::constants_of;
-use jl_names::{bytes_of, utf16_of};
 use jl_pool::Constant;
 use jl_prim::{Declaration, Grant, Provides};
 use std::alloc::Global;
 
 /// The most members that the lists of a declaration may have together.
 const MOST_MEMBERS: usize = 16_777_216;
-
-/// The most bytes that a text of a pool has (JVMS 4.4.7).
-const MOST_BYTES: usize = 65535;
 
 /// Whether a declaration may be handed to `write_info`: the bytes of each text that its file needs are at
 /// most 65,535 (JVMS 4.4.7), and its lists have at most 16,777,216 members together.
@@ -50,9 +46,10 @@ fn is_short(alloc: Global, constant: &Constant) -> Result<bool, InfoWriteFault>
     ensures fine { IfOk result (λ fine. fine ≡ is_short_constant constant.now) }
     ensures memory { IsOkUnless result InfoWriteFault.NoMemory }
 {
-    let units = utf16_of(alloc, constant.text().as_str())?;
-    let bytes = bytes_of(alloc, units.as_slice())?;
-    Ok(bytes.len() <= MOST_BYTES)
+    match constant.is_short(alloc) {
+        Ok(short) => Ok(short),
+        Err(_) => Err(InfoWriteFault::NoMemory),
+    }
 }
 
 /// How many members the lists have together, and one more than the most where they are more.

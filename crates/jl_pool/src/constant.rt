@@ -1,12 +1,14 @@
 //! Constants by what they say.
 
-ghost use Rattle.std.specs.Prelude.{◌≡◌};
+ghost use Rattle.std.specs.Prelude.{◌≡◌, length, nat_le, IfOk, IsOkUnless};
+ghost use Rattle.jl_names.specs.Text.{text_bytes};
+ghost use Rattle.jl_names.specs.Utf16.{utf16};
 ghost use Rattle.jl_pool.specs.Builder.{text_in};
 ghost use Rattle.jl_pool.specs.declared.constant.BuildEnd.TheVariants as ends;
 
-use jl_names::TextFault;
+use jl_names::{TextFault, bytes_of, utf16_of};
 use jl_prim::{CopyEnd, Name};
-use std::alloc::{AllocError, AllocFailed};
+use std::alloc::{AllocError, AllocFailed, Global};
 
 /// A constant of a pool by its text, or by the name that it has (JVMS 4.4).
 #[derive(Debug, PartialEq, Eq, Hash, Drop)]
@@ -73,4 +75,17 @@ impl Constant {
             | Constant::Package(name) => name,
         }
     }
+
+    /// Whether the text is short enough for a pool: at most 65,535 bytes (JVMS 4.4.7).
+    pub fn is_short(&self, alloc: Global) -> Result<bool, BuildEnd>
+        ensures short { IfOk result (λ short. short ≡ nat_le (length (text_bytes (utf16 (text_in self.now)))) 65535) }
+        ensures memory { IsOkUnless result BuildEnd.NoMemory }
+    {
+        let units = utf16_of(alloc, self.text().as_str())?;
+        let bytes = bytes_of(alloc, units.as_slice())?;
+        Ok(bytes.len() <= MOST_BYTES)
+    }
 }
+
+/// The most bytes that a text of a pool has.
+const MOST_BYTES: usize = 65535;
