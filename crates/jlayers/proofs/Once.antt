@@ -1,40 +1,24 @@
 -- A launch has one end and one text.
-use Rattle.std.proofs.Common.{◌≡◌, ◌≢◌, ℕ, List, [], ◌∷◌, sym, ◌∙◌, ap, subst, Contains, Option, Some, None, Result, Ok, Err, Less}
+use Rattle.std.proofs.Common.{◌≡◌, ◌≢◌, ℕ, List, [], ◌∷◌, sym, ◌∙◌, ap, subst, Option, Some, None, Result, Ok, Err}
 use Rattle.std.specs.Prelude.{MatchOption}
 use Rattle.std.specs.List.{concat}
-use Rattle.std.specs.Cmp.Lexicographic.{nat_list_cmp_total}
-use Rattle.std.proofs.lemmas.Cmp.{on_total}
 use Rattle.jl_prim.specs.declared.declaration.Observed.{Observed}
-use Rattle.jl_logic.specs.Order.{name_cmp}
-use Rattle.jl_logic.proofs.Rising.{same_rising, apart_from_total}
 use Rattle.jl_tree.specs.Files.{File}
 use Rattle.jl_config.specs.declared.fault.ResolveFault.{ResolveFault}
 use Rattle.jl_config.specs.declared.fault.ResolveFault.TheVariants as resolves
 use Rattle.jl_config.specs.Graphs.{Graph}
 use Rattle.jl_config.specs.Unique.{ResolvesOnce}
-use Rattle.jlayers.specs.declared.end.FindFault.{FindFault}
+use Rattle.jl_finder.specs.declared.fault.FindFault.{FindFault}
 use Rattle.jlayers.specs.declared.end.Refusal.{Refusal}
 use Rattle.jlayers.specs.declared.end.LaunchEnd.{LaunchEnd}
 use Rattle.jlayers.specs.declared.end.LaunchEnd.TheVariants.{Words}
 use Rattle.jlayers.specs.declared.end.WordFault.TheVariants.{NotBuilt}
 use Rattle.jlayers.specs.declared.words.Asked.{Asked}
 use Rattle.jlayers.specs.Command.{words_of}
-use Rattle.jlayers.specs.Found.{Candidate, AreCandidates, IsFound, found_or, each_declared}
+use Rattle.jl_finder.specs.Observed.{observed}
 use Rattle.jlayers.specs.Text.{words_line}
 use Rattle.jlayers.specs.Launched.{built_in_base, IsRefused, IsPrinted, IsResolved, IsAnswer}
 use Rattle.jlayers.specs.Unique.{LaunchesOnce}
-
-candidates_apart : (c d : Candidate) → name_cmp c.name d.name ≡ Less → name_cmp d.name c.name ≡ Less → ⊥
-candidates_apart = apart_from_total (λ c d. name_cmp c.name d.name) (on_total (λ (c : Candidate). c.name) nat_list_cmp_total)
-
-candidates_into : (files : List File) (path : List ℕ) (cs ds : List Candidate) → AreCandidates files path cs → AreCandidates files path ds → (c : Candidate) → Contains cs c → Contains ds c
-candidates_into files path cs ds p q c h = let w = p.only c h in q.all c w.0 w.1
-
-same_candidates : (files : List File) (path : List ℕ) (cs ds : List Candidate) → AreCandidates files path cs → AreCandidates files path ds → cs ≡ ds
-same_candidates files path cs ds p q = same_rising (λ c d. name_cmp c.name d.name) candidates_apart cs ds p.rise q.rise (candidates_into files path cs ds p q) (candidates_into files path ds cs q p)
-
-same_found : (files : List File) (path : List ℕ) (f g : Result (List Observed) FindFault) → IsFound files path f → IsFound files path g → f ≡ g
-same_found files path f g p q = p.2 ∙ ap (λ cs. found_or (each_declared path cs)) (same_candidates files path p.0 q.0 p.1 q.1) ∙ sym q.2
 
 same_refused : (r : Refusal) (e f : LaunchEnd) (ls ms : List (List ℕ)) → IsRefused r e ls → IsRefused r f ms → (e ≡ f) × (ls ≡ ms)
 same_refused r e f ls ms p q = (p.0 ∙ sym q.0, p.1 ∙ sym q.1)
@@ -57,9 +41,7 @@ module _ (resolves_once : ResolvesOnce) where
       same_printed q.0 e f ls ms (subst (λ a. IsPrinted a e ls) one p.2) q.2
 
   same_answer : (files : List File) (asked : Asked) (e f : LaunchEnd) (ls ms : List (List ℕ)) → IsAnswer files asked e ls → IsAnswer files asked f ms → (e ≡ f) × (ls ≡ ms)
-  same_answer files asked e f ls ms p q =
-      let one : p.0 ≡ q.0 = same_found files asked.path p.0 q.0 p.1 q.1 in
-      same_resolved asked.roots q.0 e f ls ms (subst (λ found. IsResolved asked.roots found e ls) one p.2) q.2
+  same_answer files asked e f ls ms p q = same_resolved asked.roots (observed files (asked.path ∷ [])) e f ls ms p q
 
   by_words : (words : Option Asked) (files : List File) (e f : LaunchEnd) (ls ms : List (List ℕ))
       → MatchOption words ((e ≡ Words NotBuilt) × (ls ≡ words_line ∷ [])) (λ asked. IsAnswer files asked e ls)

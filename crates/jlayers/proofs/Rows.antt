@@ -7,7 +7,7 @@ use Rattle.jl_prim.specs.Names.{names_a_module}
 use Rattle.jl_prim.specs.declared.declaration.Observed.{Observed}
 use Rattle.jl_modinfo.specs.declared.fault.InfoFault.TheVariants as infos
 use Rattle.jl_config.specs.declared.fault.ResolveFault.TheVariants.{NotFound}
-use Rattle.jlayers.specs.declared.end.FindFault.TheVariants.{Info}
+use Rattle.jl_finder.specs.declared.fault.FindFault.TheVariants.{Info}
 use Rattle.jlayers.specs.declared.end.Refusal.TheVariants.{Find, Resolve}
 use Rattle.jlayers.specs.Text.{graph_lines, refusal_line, line}
 use Rattle.jlayers.specs.Launched.{built_in_base}

@@ -8,7 +8,7 @@ use Rattle.jl_config.specs.declared.fault.ResolveFault.{ResolveFault}
 use Rattle.jl_config.specs.declared.fault.ResolveFault.TheVariants as resolves
 use Rattle.jl_config.specs.Graphs.{Graph}
 use Rattle.jl_config.specs.Resolves.{Resolves}
-use Rattle.jlayers.specs.declared.end.FindFault.{FindFault}
+use Rattle.jl_finder.specs.declared.fault.FindFault.{FindFault}
 use Rattle.jlayers.specs.declared.end.Refusal.{Refusal}
 use Rattle.jlayers.specs.declared.end.Refusal.TheVariants.{Find, Resolve}
 use Rattle.jlayers.specs.declared.end.WordFault.TheVariants.{NotBuilt}
@@ -17,7 +17,7 @@ use Rattle.jlayers.specs.declared.end.LaunchEnd.TheVariants.{Done, Words, Refuse
 use Rattle.jlayers.specs.declared.words.Asked.{Asked}
 use Rattle.jlayers.specs.Statuses.{IsStop}
 use Rattle.jlayers.specs.Command.{words_of}
-use Rattle.jlayers.specs.Found.{IsFound}
+use Rattle.jl_finder.specs.Observed.{observed}
 use Rattle.jlayers.specs.Writing.{grown}
 use Rattle.jlayers.specs.Text.{words_line, refusal_line, graph_lines}
 
@@ -57,7 +57,7 @@ IsResolved roots (Ok found) end lines =
 
 -- what is launched by words that ask
 abbrev pub IsAnswer : List File → Asked → LaunchEnd → List (List ℕ) → Type 0
-IsAnswer files asked end lines = (found : Result (List Observed) FindFault) × IsFound files asked.path found × IsResolved asked.roots found end lines
+IsAnswer files asked end lines = IsResolved asked.roots (observed files (asked.path ∷ [])) end lines
 
 -- The end and the lines that the words have over these files.
 abbrev pub IsLaunched : List (List ℕ) → List File → LaunchEnd → List (List ℕ) → Type 0

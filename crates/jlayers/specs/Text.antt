@@ -9,8 +9,8 @@ use Rattle.jl_config.specs.declared.configuration.Read.{Read}
 use Rattle.jl_config.specs.declared.fault.ResolveFault.{ResolveFault}
 use Rattle.jl_config.specs.declared.fault.ResolveFault.TheVariants as resolves
 use Rattle.jl_config.specs.Graphs.{Graph}
-use Rattle.jlayers.specs.declared.end.FindFault.{FindFault}
-use Rattle.jlayers.specs.declared.end.FindFault.TheVariants as finds
+use Rattle.jl_finder.specs.declared.fault.FindFault.{FindFault}
+use Rattle.jl_finder.specs.declared.fault.FindFault.TheVariants as finds
 use Rattle.jlayers.specs.declared.end.Refusal.{Refusal}
 use Rattle.jlayers.specs.declared.end.Refusal.TheVariants as refusals
 use Rattle.jl_logic.specs.Order.{is_text}
@@ -37,7 +37,11 @@ info_text infos.NoMemory = codes "NoMemory"
 
 abbrev pub find_text : FindFault → List ℕ
 find_text (finds.Info path f) = codes "Info" ++ field path ++ field (info_text f)
+find_text (finds.Archive path) = codes "Archive" ++ field path
+find_text (finds.TwoInDirectory dir name) = codes "TwoInDirectory" ++ field dir ++ field name
+find_text (finds.TopLevelClass path) = codes "TopLevelClass" ++ field path
 find_text (finds.TooLarge path n) = codes "TooLarge" ++ field path ++ field (decimal n)
+find_text finds.TooMany = codes "TooMany"
 find_text finds.ReadFault = codes "ReadFault"
 find_text finds.NoMemory = codes "NoMemory"
 

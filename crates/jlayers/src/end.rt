@@ -4,27 +4,13 @@ ghost use Rattle.std.specs.Prelude.{◌≡◌};
 ghost use Rattle.jlayers.specs.Statuses.{status_for};
 
 use jl_config::ResolveFault;
-use jl_modinfo::InfoFault;
-use jl_prim::Name;
+use jl_finder::FindFault;
 
 /// What is wrong with the words of the command line.
 #[derive(Clone, Copy, Debug, PartialEq, Eq)]
 pub enum WordFault {
     /// The words are none that this program takes yet.
     NotBuilt,
-}
-
-/// Why modules were not found.
-#[derive(Debug, PartialEq, Drop)]
-pub enum FindFault {
-    /// The file at this path is no declaration file.
-    Info(Name, InfoFault),
-    /// The file at this path has this many bytes, which is more than a declaration file may have.
-    TooLarge(Name, u64),
-    /// The tree failed. Its count of faults rose.
-    ReadFault,
-    /// There was no memory for the modules.
-    NoMemory,
 }
 
 /// Why a command was refused.

@@ -7,16 +7,17 @@ ghost use Rattle.jlayers.specs.Command.{words_of};
 ghost use Rattle.jlayers.specs.Text as lines;
 ghost use Rattle.jlayers.specs.Launched.{Ends, Completes, IsLaunched, IsAnswer, IsResolved, IsPrinted, IsRefused, IsFinal, Comes, built_in_base};
 
-use crate::end::{FindFault, LaunchEnd, Refusal, WordFault};
-use crate::finder::find_in;
+use crate::end::{LaunchEnd, Refusal, WordFault};
 use crate::law::launches_always;
 use crate::text::{graph_lines, refusal_line, words_line};
 use crate::words::{Asked, asked_by};
 use crate::writing::write_lines;
 use jl_config::{Configuration, ResolveFault, resolve};
+use jl_finder::{FindFault, find_all};
 use jl_prim::{ConfigId, CopyEnd, Declaration, Found, Items, Name, Observed};
 use jl_tree::{Sink, Tree};
 use std::alloc::{AllocError, AllocFailed, Global};
+use std::slice;
 
 /// What a command comes to: how it ends, and the lines that it prints.
 #[derive(Drop)]
@@ -161,27 +162,21 @@ fn answer<T: Tree>(alloc: Global, asked: &Asked, tree: &mut T) -> Result<Outcome
     ensures ended { IfOk result (λ o. IsFinal o.end) }
     ensures read_fault { IsErrOf result Stop.ReadFault → Rose (T.faults tree.old) (T.faults tree.new) }
 {
-    match find_in(alloc, tree, &asked.path) {
-        Ok(modules) => answer_over(alloc, modules, asked.roots.as_slice()),
-        Err(FindFault::Info(place, fault)) => {
-            refuse(alloc, Refusal::Find(FindFault::Info(place, fault)))
-        }
-        Err(FindFault::TooLarge(place, length)) => {
-            refuse(alloc, Refusal::Find(FindFault::TooLarge(place, length)))
-        }
+    match find_all(alloc, tree, slice::from_ref(&asked.path)) {
+        Ok(found) => answer_over(alloc, found, asked.roots.as_slice()),
         Err(FindFault::ReadFault) => Err(Stop::ReadFault),
         Err(FindFault::NoMemory) => Err(Stop::NoMemory),
+        Err(fault) => refuse(alloc, Refusal::Find(fault)),
     }
 }
 
 /// What `resolve` comes to over the modules that were found.
-fn answer_over(alloc: Global, modules: Items<Observed>, roots: &[Name]) -> Result<Outcome, Stop>
-    ensures resolved { IfOk result (λ o. IsResolved roots.now (Ok modules) o.end (map string_bytes o.lines.items)) }
+fn answer_over(alloc: Global, after: Found, roots: &[Name]) -> Result<Outcome, Stop>
+    ensures resolved { IfOk result (λ o. IsResolved roots.now (Ok after.modules) o.end (map string_bytes o.lines.items)) }
     ensures ended { IfOk result (λ o. IsFinal o.end) }
     ensures memory { IsErrOf result Stop.ReadFault → ⊥ }
 {
     let before = base_alone(alloc)?;
-    let after = Found { modules };
     match resolve(alloc, &[], &before, &[ConfigId(0)], &after, roots, false) {
         Ok(graph) => print_graph(alloc, &graph),
         Err(ResolveFault::NotFound { name, by }) => {

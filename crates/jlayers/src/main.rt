@@ -2,7 +2,6 @@
 #![tactic(auto)]
 
 mod end;
-mod finder;
 mod launching;
 mod law;
 #[cfg(test)]

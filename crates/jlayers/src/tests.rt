@@ -200,7 +200,11 @@ fn commands(rt: HostRuntime) -> Result<(), Fail> {
             "3 refused: Resolve NotFound a -\n",
         ),
         ("a a", "resolve --module-path m a a", SMALLEST),
-        ("a a;b a x", "resolve --module-path m a", SMALLEST),
+        (
+            "a a;b a x",
+            "resolve --module-path m a",
+            "3 refused: Find TwoInDirectory m a\n",
+        ),
         (
             "e é",
             "resolve --module-path m é",
@@ -234,11 +238,29 @@ fn files_that_are_refused(rt: HostRuntime) -> Result<(), Fail> {
     )
 }
 
+// The smallest module with one more file.
+#[test]
+fn files_beside_modules(rt: HostRuntime) -> Result<(), Fail> {
+    let alloc = rt.alloc();
+    let rows = [
+        ("m/x.jar", "3 refused: Find Archive m/x.jar\n"),
+        ("m/a/X.class", "3 refused: Find TopLevelClass m/a/X.class\n"),
+        ("m/a/p/X.class", SMALLEST),
+    ];
+    for (path, want) in rows {
+        let mut files = files_in(alloc, "a a")?;
+        files.push((Name::from_text(alloc, path)?, Items::new(alloc)))?;
+        let got = launched(alloc, "resolve --module-path m a", files, &[], &[])?;
+        same(got.as_str(), want)?;
+    }
+    Ok(())
+}
+
 #[test]
 fn faults_of_the_outside(rt: HostRuntime) -> Result<(), Fail> {
     let alloc = rt.alloc();
     let line = "resolve --module-path m a";
-    for call in [1, 2] {
+    for call in [1, 2, 3] {
         let got = launched(alloc, line, files_in(alloc, "a a")?, &[call], &[])?;
         same(got.as_str(), "6 ")?;
     }

@@ -5,8 +5,9 @@ ghost use Rattle.std.specs.String.{string_bytes};
 ghost use Rattle.jl_logic.specs.Order.{is_text};
 ghost use Rattle.jlayers.specs.Text as lines;
 
-use crate::end::{FindFault, Refusal};
+use crate::end::Refusal;
 use jl_config::{Configuration, Read, ResolveFault};
+use jl_finder::FindFault;
 use jl_modinfo::InfoFault;
 use jl_names::dotted;
 use jl_prim::Observed;
@@ -50,7 +51,11 @@ fn find_text(alloc: Global, fault: &FindFault) -> Result<String, AllocError>
             let text = info_text(alloc, fault)?;
             format!(in alloc; "Info {path} {text}")
         }
+        FindFault::Archive(path) => format!(in alloc; "Archive {path}"),
+        FindFault::TwoInDirectory(dir, name) => format!(in alloc; "TwoInDirectory {dir} {name}"),
+        FindFault::TopLevelClass(path) => format!(in alloc; "TopLevelClass {path}"),
         FindFault::TooLarge(path, length) => format!(in alloc; "TooLarge {path} {length}"),
+        FindFault::TooMany => String::from_str(alloc, "TooMany"),
         FindFault::ReadFault => String::from_str(alloc, "ReadFault"),
         FindFault::NoMemory => String::from_str(alloc, "NoMemory"),
     }

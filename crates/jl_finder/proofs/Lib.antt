@@ -1,0 +1,8 @@
+pub mod Members
+pub mod Entries
+pub mod Steps
+pub mod Modules
+pub mod Walks
+pub mod Scans
+pub mod Firsts
+pub mod Elements

@@ -1,0 +1,13 @@
+use Rattle.std.proofs.Common.{◌≡◌, ◌≤◌, [], List, Some, drop, map}
+use Rattle.jl_tree.specs.Files.{File}
+use Rattle.jl_finder.specs.Observed.{scan_entries, name_of}
+use Rattle.jl_finder.specs.Scanning.{tally_of}
+use Rattle.jl_finder.proofs.directory.scan_directory.Given as goal
+
+abbrev pub invariant-loop-entry : goal.invariant-loop-entry
+invariant-loop-entry g l = record {
+  same_files : g.T.Tree.files l.tree ≡ g.T.Tree.files l.initial.tree;
+  counts : g.T.Tree.faults l.initial.tree ≤ g.T.Tree.faults l.tree;
+  names : l.names.keys ≡ map name_of l.modules.items;
+  gives : (files : List File) → g.T.Tree.files l.initial.tree ≡ Some files → scan_entries files l.dir (drop l.entry-index l.entries) l.modules.items (tally_of l.so_far) ≡ scan_entries files l.dir l.entries [] (tally_of l.fn.counts);
+}

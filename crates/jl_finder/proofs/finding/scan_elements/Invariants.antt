@@ -1,0 +1,12 @@
+use Rattle.std.proofs.Common.{◌≡◌, ◌≤◌, List, Some, drop}
+use Rattle.jl_tree.specs.Files.{File}
+use Rattle.jl_finder.specs.Observed.{scan_elements}
+use Rattle.jl_finder.specs.Scanning.{tally_of, modules_or, elements_found}
+use Rattle.jl_finder.proofs.finding.scan_elements.Given as goal
+
+abbrev pub invariant-loop-element : goal.invariant-loop-element
+invariant-loop-element g l = record {
+  same_files : g.T.Tree.files l.tree ≡ g.T.Tree.files l.initial.tree;
+  counts : g.T.Tree.faults l.initial.tree ≤ g.T.Tree.faults l.tree;
+  gives : (files : List File) → g.T.Tree.files l.initial.tree ≡ Some files → modules_or (scan_elements files (drop l.element-index l.elements) l.modules.items (tally_of l.counts)) ≡ elements_found files l.elements;
+}

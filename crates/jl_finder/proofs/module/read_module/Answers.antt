@@ -1,0 +1,18 @@
+use Rattle.std.proofs.Common.{◌∙◌, sym, ap, Some, option_map}
+use Rattle.std.proofs.lemmas.Result.{err_from_is_err_and}
+use Rattle.jl_finder.proofs.Modules.{module_so, told_none, told_some, told_large}
+use Rattle.jl_finder.proofs.module.read_module.Goals as goal
+
+pub returns-in_err-content-clause-gives : goal.returns-in_err-content-clause-gives
+returns-in_err-content-clause-gives g c = λ files e.
+    let p = err_from_is_err_and c.from_residual-in_err-content.result c.from_residual-in_err-content.ensures.1 in
+    rw (p.1, p.2) (told_large (g.T.Tree.files c.args.tree.now) files c.args.place c.in_ok-file.file c.args.packages.now c.in_err-content.field-0.0 e c.in_err-content.ensures.gives c.in_ok-file.ensures)
+
+pub returns-in-None-clause-gives : goal.returns-in-None-clause-gives
+returns-in-None-clause-gives g c = λ files e.
+    module_so c.declared_in.result _ _ (told_none (g.T.Tree.files c.args.tree.now) files c.args.place c.in_ok-file.file c.args.packages.now (option_map (λ v. v.items) c.in_ok-content.content) e (ap (λ o. option_map (λ v. v.items) o) c.in-None.is) c.in_ok-content.ensures.gives c.in_ok-file.ensures) c.declared_in.ensures.gives
+
+pub returns-in-Some-clause-gives : goal.returns-in-Some-clause-gives
+returns-in-Some-clause-gives g c = λ files e.
+    module_so c.declared_in-in-Some.result _ _ (told_some (g.T.Tree.files c.args.tree.now) files c.args.place c.in_ok-file.file c.as_slice.result.now c.args.packages.now (option_map (λ v. v.items) c.in_ok-content.content) e (ap (λ o. option_map (λ v. v.items) o) c.in-Some.is ∙ ap Some (sym c.as_slice.ensures.value)) c.in_ok-content.ensures.gives c.in_ok-file.ensures)
+    c.declared_in-in-Some.ensures.gives

@@ -1,0 +1,4 @@
+pub mod Paths
+pub mod Folders
+pub mod Observed
+pub mod Scanning

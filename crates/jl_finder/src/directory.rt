@@ -1,0 +1,106 @@
+//! Directories of modules.
+
+ghost use Rattle.std.specs.Prelude.{◌≡◌, ◌≤◌, List, [], Some, IfOk, IsErrOf};
+ghost use Rattle.jl_logic.specs.Answers.{Gives};
+ghost use Rattle.jl_logic.specs.Counts.{Rose};
+ghost use Rattle.jl_tree.specs.Files.{File};
+ghost use Rattle.jl_finder.specs.declared.fault.FindFault.TheVariants as finds;
+ghost use Rattle.jl_finder.specs.Observed.{told, scan_entries};
+ghost use Rattle.jl_finder.specs.Scanning.{tally_of, folder_found, entry_found};
+
+use crate::counts::{Counts, one_folder};
+use crate::fault::FindFault;
+use crate::listing::{declares, entries_or_none};
+use crate::module::scan_module;
+use crate::names::{is_archive, path_in};
+use indexmap::IndexSet;
+use jl_prim::{Copied, CopyEnd, Name, Observed};
+use jl_tree::{Entry, Tree};
+use std::alloc::Global;
+
+/// The modules in a directory with these entries, of which no two have one name.
+pub fn scan_directory<T: Tree>(
+    alloc: Global,
+    tree: &mut T,
+    dir: &Name,
+    entries: &[Entry],
+    counts: Counts,
+) -> Result<(Vec<Observed>, Counts), FindFault>
+    ensures gives { (files : List File) → T.files tree.old ≡ Some files → Gives told (λ x. (x.0.items, tally_of x.1)) result (scan_entries files dir.now entries.now [] (tally_of counts)) }
+    ensures same_files { T.files tree.new ≡ T.files tree.old }
+    ensures counts { T.faults tree.old ≤ T.faults tree.new }
+    ensures read_fault { IsErrOf result FindFault.ReadFault → Rose (T.faults tree.old) (T.faults tree.new) }
+{
+    let mut names = IndexSet::new(alloc);
+    let mut modules = Vec::new(alloc);
+    let mut so_far = counts;
+    for entry in entries {
+        let (found, after) = scan_entry(alloc, tree, dir, entry, so_far)?;
+        so_far = after;
+        match found {
+            None => {}
+            Some(module) => {
+                let name = module.declaration.name.copy()?;
+                if !names.insert(name)? {
+                    return Err(twice(dir, &module)?);
+                }
+                modules.push(module)?;
+            }
+        }
+    }
+    Ok((modules, so_far))
+}
+
+/// The fault of a module whose name another module in the directory has.
+fn twice(dir: &Name, second: &Observed) -> Result<FindFault, CopyEnd>
+    ensures { IfOk result (λ fault. fault ≡ finds.TwoInDirectory dir.now second.now.declaration.name) }
+{
+    let dir = dir.copy()?;
+    let name = second.declaration.name.copy()?;
+    Ok(FindFault::TwoInDirectory(dir, name))
+}
+
+/// The module that an entry of a directory holds, if it holds one.
+fn scan_entry<T: Tree>(
+    alloc: Global,
+    tree: &mut T,
+    dir: &Name,
+    entry: &Entry,
+    counts: Counts,
+) -> Result<(Option<Observed>, Counts), FindFault>
+    ensures gives { (files : List File) → T.files tree.old ≡ Some files → Gives told (λ x. (x.0, tally_of x.1)) result (entry_found files dir.now entry.now (tally_of counts)) }
+    ensures same_files { T.files tree.new ≡ T.files tree.old }
+    ensures counts { T.faults tree.old ≤ T.faults tree.new }
+    ensures read_fault { IsErrOf result FindFault.ReadFault → Rose (T.faults tree.old) (T.faults tree.new) }
+{
+    if is_archive(entry.name.as_bytes()) {
+        let path = path_in(alloc, dir, entry.name.as_str())?;
+        return Err(FindFault::Archive(path));
+    }
+    if !entry.is_dir {
+        return Ok((None, counts));
+    }
+    let place = path_in(alloc, dir, entry.name.as_str())?;
+    scan_folder(alloc, tree, place, counts)
+}
+
+/// The module that a folder holds, if it holds one.
+fn scan_folder<T: Tree>(
+    alloc: Global,
+    tree: &mut T,
+    place: Name,
+    counts: Counts,
+) -> Result<(Option<Observed>, Counts), FindFault>
+    ensures gives { (files : List File) → T.files tree.old ≡ Some files → Gives told (λ x. (x.0, tally_of x.1)) result (folder_found files place (tally_of counts)) }
+    ensures same_files { T.files tree.new ≡ T.files tree.old }
+    ensures counts { T.faults tree.old ≤ T.faults tree.new }
+    ensures read_fault { IsErrOf result FindFault.ReadFault → Rose (T.faults tree.old) (T.faults tree.new) }
+{
+    let counted = one_folder(counts)?;
+    let entries = entries_or_none(alloc, tree, &place)?;
+    if !declares(entries.as_slice()) {
+        return Ok((None, counted));
+    }
+    let scanned = scan_module(alloc, tree, place, entries.as_slice(), counted)?;
+    Ok((Some(scanned.0), scanned.1))
+}

@@ -1,0 +1,122 @@
+//! All elements of a module path in order.
+
+ghost use Rattle.std.specs.Prelude.{◌≡◌, ◌≤◌, List, [], Some, IfOk, IfSome, IsErrOf};
+ghost use Rattle.jl_logic.specs.Answers.{Gives};
+ghost use Rattle.jl_logic.specs.Counts.{Rose};
+ghost use Rattle.jl_tree.specs.Files.{File};
+ghost use Rattle.jl_finder.specs.Observed as observed;
+ghost use Rattle.jl_finder.specs.Observed.{told, observed};
+ghost use Rattle.jl_finder.specs.Scanning.{AreEntries, tally_of, listed_found, elements_found};
+
+use crate::counts::{Counts, one_folder};
+use crate::directory::scan_directory;
+use crate::fault::FindFault;
+use crate::listing::{declares, entries_in};
+use crate::module::scan_module;
+use crate::names::is_archive;
+use indexmap::IndexSet;
+use jl_prim::{Copied, CopyEnd, Found, Items, Name, Observed};
+use jl_tree::{Entry, Tree};
+use std::alloc::Global;
+
+/// The modules on a module path: each element is a folder with one module, or a folder of such folders, and the
+/// first module of a name counts.
+///
+/// The first fault stands, in the order of the elements and of the names in them: `Archive` before anything else is
+/// asked of an entry, `TooMany` at module 4,097 and at folder 65,537, and for one module `TopLevelClass`, then
+/// `TooLarge` or `Info`, then `TwoInDirectory`. `ReadFault` comes only where the count of the tree's faults rose.
+pub fn find_all<T: Tree>(alloc: Global, tree: &mut T, elements: &[Name]) -> Result<Found, FindFault>
+    ensures found { IfSome (T.files tree.old) (λ files. Gives told (λ f. f.modules) result (observed files elements.now)) }
+    ensures same_files { T.files tree.new ≡ T.files tree.old }
+    ensures counts { T.faults tree.old ≤ T.faults tree.new }
+    ensures read_fault { IsErrOf result FindFault.ReadFault → Rose (T.faults tree.old) (T.faults tree.new) }
+{
+    let modules = scan_elements(alloc, tree, elements)?;
+    let kept = first_of_each(alloc, modules)?;
+    Ok(Found {
+        modules: Items::from_vec(kept),
+    })
+}
+
+/// The modules of all elements in order.
+fn scan_elements<T: Tree>(
+    alloc: Global,
+    tree: &mut T,
+    elements: &[Name],
+) -> Result<Vec<Observed>, FindFault>
+    ensures gives { (files : List File) → T.files tree.old ≡ Some files → Gives told (λ v. v.items) result (elements_found files elements.now) }
+    ensures same_files { T.files tree.new ≡ T.files tree.old }
+    ensures counts { T.faults tree.old ≤ T.faults tree.new }
+    ensures read_fault { IsErrOf result FindFault.ReadFault → Rose (T.faults tree.old) (T.faults tree.new) }
+{
+    let mut modules = Vec::new(alloc);
+    let mut counts = Counts {
+        modules: 0,
+        folders: 0,
+    };
+    for element in elements {
+        let found = scan_element(alloc, tree, element, counts)?;
+        counts = found.1;
+        let mut more = found.0;
+        modules.append(&mut more)?;
+    }
+    Ok(modules)
+}
+
+/// The modules of one element. An element that is not there has none.
+fn scan_element<T: Tree>(
+    alloc: Global,
+    tree: &mut T,
+    element: &Name,
+    counts: Counts,
+) -> Result<(Vec<Observed>, Counts), FindFault>
+    ensures gives { (files : List File) → T.files tree.old ≡ Some files → Gives told (λ x. (x.0.items, tally_of x.1)) result (observed.scan_element files element.now (tally_of counts)) }
+    ensures same_files { T.files tree.new ≡ T.files tree.old }
+    ensures counts { T.faults tree.old ≤ T.faults tree.new }
+    ensures read_fault { IsErrOf result FindFault.ReadFault → Rose (T.faults tree.old) (T.faults tree.new) }
+{
+    if is_archive(element.as_bytes()) {
+        return Err(FindFault::Archive(element.copy()?));
+    }
+    match entries_in(alloc, tree, element)? {
+        None => Ok((Vec::new(alloc), counts)),
+        Some(entries) => scan_listed(alloc, tree, element, entries.as_slice(), counts),
+    }
+}
+
+/// The modules of an element with these entries: one, where a declaration file is among them.
+fn scan_listed<T: Tree>(
+    alloc: Global,
+    tree: &mut T,
+    element: &Name,
+    entries: &[Entry],
+    counts: Counts,
+) -> Result<(Vec<Observed>, Counts), FindFault>
+    ensures gives { (files : List File) → T.files tree.old ≡ Some files → AreEntries files element.now entries.now → Gives told (λ x. (x.0.items, tally_of x.1)) result (listed_found files element.now (tally_of counts)) }
+    ensures same_files { T.files tree.new ≡ T.files tree.old }
+    ensures counts { T.faults tree.old ≤ T.faults tree.new }
+    ensures read_fault { IsErrOf result FindFault.ReadFault → Rose (T.faults tree.old) (T.faults tree.new) }
+{
+    let counted = one_folder(counts)?;
+    if !declares(entries) {
+        return scan_directory(alloc, tree, element, entries, counted);
+    }
+    let scanned = scan_module(alloc, tree, element.copy()?, entries, counted)?;
+    let mut modules = Vec::new(alloc);
+    modules.push(scanned.0)?;
+    Ok((modules, scanned.1))
+}
+
+/// The first module of each name.
+fn first_of_each(alloc: Global, modules: Vec<Observed>) -> Result<Vec<Observed>, CopyEnd>
+    ensures { IfOk result (λ kept. kept.items ≡ observed.first_of_each modules.items) }
+{
+    let mut seen = IndexSet::new(alloc);
+    let mut kept = Vec::new(alloc);
+    for module in modules {
+        if seen.insert(module.declaration.name.copy()?)? {
+            kept.push(module)?;
+        }
+    }
+    Ok(kept)
+}
