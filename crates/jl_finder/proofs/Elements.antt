@@ -1,17 +1,17 @@
 -- Elements: what each gives, and all of them.
-use Rattle.std.proofs.Common.{◌≡◌, ◌<◌, ℕ, ◌+◌, List, [], ◌∷◌, ◌++◌, length, get_or, drop, Option, None, Some, IfSome, Result, Ok, Err, Bool, true, false, cond, refl, sym, ◌∙◌, ap, subst}
-use Rattle.std.proofs.lemmas.List.{drop_more}
+use Rattle.std.proofs.Common.{◌≡◌, ◌<◌, ◌≤◌, ℕ, ◌+◌, List, [], ◌∷◌, ◌++◌, length, get_or, drop, Option, Some, IfSome, Result, Ok, Err, true, false, cond, refl, sym, ◌∙◌, ap, subst, Vec}
+use Rattle.std.specs.Global.{Global}
+use Rattle.std.proofs.lemmas.List.{drop_more, drop_all}
 use Rattle.jl_logic.specs.Answers.{Fails, Gives}
 use Rattle.jl_reading.specs.Reading.{◌>>=◌}
 use Rattle.jl_prim.specs.declared.declaration.Observed.{Observed}
 use Rattle.jl_tree.specs.declared.entry.Entry.{Entry}
 use Rattle.jl_tree.specs.Files.{File}
 use Rattle.jl_finder.specs.declared.fault.FindFault.{FindFault}
-use Rattle.jl_finder.specs.declared.fault.FindFault.TheVariants as finds
-use Rattle.jl_finder.specs.Paths.{is_archive}
-use Rattle.jl_finder.specs.Folders.{entries_of, is_there, is_module}
+use Rattle.jl_finder.specs.declared.counts.Counts.{Counts}
+use Rattle.jl_finder.specs.Folders.{entries_of, is_module}
 use Rattle.jl_finder.specs.Observed.{told, Tally, with_folders, scan_module, scan_entries, scan_listed, scan_element, scan_elements, first_of_each, found_or, observed}
-use Rattle.jl_finder.specs.Scanning.{AreEntries, declares, listed_found, modules_or, elements_found}
+use Rattle.jl_finder.specs.Scanning.{AreEntries, tally_of, declares, listed_found, modules_or, elements_found}
 use Rattle.jl_finder.proofs.Entries.{declares_is, entries_are}
 use Rattle.jl_finder.proofs.Steps.{step_fails, fails_so, step_done, fails_as, if_told}
 
@@ -42,18 +42,15 @@ listed_fails files element es t c e h k d f = fails_so told e _ (listed_found fi
 pub listed_done : (files : List File) (element : List ℕ) (es : List Entry) (t c n : Tally) (o : Observed) (os : List Observed) → AreEntries files element es → with_folders 1 t ≡ Ok c → declares es ≡ true → scan_module files element c ≡ Ok (o, n) → os ≡ o ∷ [] → listed_found files element t ≡ Ok (os, n)
 listed_done files element es t c n o os h k d m q = listed_module files element es t c h k d ∙ step_done (scan_module files element c) one (o, n) m ∙ ap (λ x. Ok (x, n)) (sym q)
 
--- ---- one element
+-- the same of a copy of the element's path
+pub listed_fails_at : (files : List File) (element place : List ℕ) (es : List Entry) (t c : Tally) (e : FindFault) → AreEntries files element es → place ≡ element → with_folders 1 t ≡ Ok c → declares es ≡ true → (AreEntries files place es → Fails told e (scan_module files place c)) → Fails told e (listed_found files element t)
+listed_fails_at files element place es t c e h q k d f = listed_fails files element es t c e h k d (subst (λ p. AreEntries files p es → Fails told e (scan_module files p c)) q f h)
 
-pub element_archive : (files : List File) (element path : List ℕ) (t : Tally) → is_archive element ≡ true → path ≡ element → scan_element files element t ≡ Err (finds.Archive path)
-element_archive files element path t a q = ap (λ b. cond b (Err (finds.Archive element)) (cond (is_there files element) (listed_found files element t) (Ok ([], t)))) a ∙ ap (λ p. Err (finds.Archive p)) (sym q)
+pub listed_done_at : (files : List File) (element place : List ℕ) (es : List Entry) (t c n : Tally) (o : Observed) (os : List Observed) → AreEntries files element es → place ≡ element → with_folders 1 t ≡ Ok c → declares es ≡ true → (AreEntries files place es → scan_module files place c ≡ Ok (o, n)) → os ≡ o ∷ [] → listed_found files element t ≡ Ok (os, n)
+listed_done_at files element place es t c n o os h q k d f m = listed_done files element es t c n o os h k d (subst (λ p. AreEntries files p es → scan_module files p c ≡ Ok (o, n)) q f h) m
 
-pub element_absent : (files : List File) (element : List ℕ) (t : Tally) (os : List Observed) → is_archive element ≡ false → is_there files element ≡ false → os ≡ [] → scan_element files element t ≡ Ok (os, t)
-element_absent files element t os a h q =
-    ap (λ b. cond b (Err (finds.Archive element)) (cond (is_there files element) (listed_found files element t) (Ok ([], t)))) a ∙ ap (λ b. cond b (listed_found files element t) (Ok ([], t))) h ∙ ap (λ x. Ok (x, t)) (sym q)
-
-pub element_listed : (files : List File) (element : List ℕ) (t : Tally) → is_archive element ≡ false → is_there files element ≡ true → scan_element files element t ≡ listed_found files element t
-element_listed files element t a h =
-    ap (λ b. cond b (Err (finds.Archive element)) (cond (is_there files element) (listed_found files element t) (Ok ([], t)))) a ∙ ap (λ b. cond b (listed_found files element t) (Ok ([], t))) h
+pub listed_so : (r : Result (Vec Observed Global × Counts) FindFault) (d total : Result (List Observed × Tally) FindFault) → total ≡ d → Gives told (λ x. (x.0.items, tally_of x.1)) r d → Gives told (λ x. (x.0.items, tally_of x.1)) r total
+listed_so r d total q h = subst (Gives told (λ x. (x.0.items, tally_of x.1)) r) (sym q) h
 
 -- ---- all elements
 
@@ -81,6 +78,10 @@ pub element_done : (files : List File) (es : List (List ℕ)) (i : ℕ) (x : Lis
 element_done files es i x done os after t n total lt q h k so_far =
     ap (λ d. modules_or (scan_elements files (drop (i + 1) es) d n)) k
     ∙ sym (ap modules_or (next_is files es i x done t lt q ∙ step_done (scan_element files x t) (rest_of files (drop (i + 1) es) done) (os, n) h)) ∙ so_far
+
+pub elements_over : (files : List File) (es : List (List ℕ)) (i : ℕ) (done : List Observed) (t : Tally) → length es ≤ i → modules_or (scan_elements files (drop i es) done t) ≡ Ok done
+unfolding scan_elements
+elements_over files es i done t le = ap (λ xs. modules_or (scan_elements files xs done t)) (drop_all i es le)
 
 -- ---- what is found
 

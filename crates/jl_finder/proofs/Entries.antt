@@ -1,10 +1,10 @@
 -- What a listing of a folder tells of the files in it.
-use Rattle.std.proofs.Common.{◌≡◌, ◌≢◌, ◌⊎◌, ℕ, suc, zero, ◌+◌, List, [], ◌∷◌, ◌++◌, length, get_or, take, drop, map, filter, Option, None, Some, IfSome, Bool, true, false, cond, not, ◌||◌, ◌&&◌, ◌==◌, nat_eq, Contains, inl, inr, ⊎_elim, refl, sym, ◌∙◌, ap, subst, true≢false, append_assoc, Ordering, Less, Equal, Greater, arith, is_some}
-use Rattle.std.specs.List.{filter_map, list_any, before_first, position_or_len, IsDistinct, starts_with, AllByRecursion}
+use Rattle.std.proofs.Common.{◌≡◌, ℕ, suc, ◌+◌, List, [], ◌∷◌, ◌++◌, length, get_or, take, drop, map, filter, Option, None, Some, IfSome, Bool, true, false, cond, not, ◌||◌, ◌&&◌, ◌==◌, nat_eq, Contains, ⊎_elim, refl, sym, ◌∙◌, ap, subst, true≢false, Ordering, Less, Equal, Greater, arith, is_some}
+use Rattle.std.specs.List.{list_any, before_first, position_or_len, IsDistinct, starts_with}
 use Rattle.std.specs.List.Sorted.{IsSortedBy}
 use Rattle.std.specs.Ordering.{is_lt, is_eq, ordering_reverse}
 use Rattle.std.specs.Cmp.Lexicographic.{pointwise, nat_list_cmp_total, nat_list_eq_equiv, texts_ties}
-use Rattle.std.proofs.lemmas.Bool.{cases_Bool, not-true, not-false}
+use Rattle.std.proofs.lemmas.Bool.{cases_Bool, not-true}
 use Rattle.std.proofs.lemmas.List.Elements.{All-contains, All-from_recursion}
 use Rattle.std.proofs.lemmas.List.Sorted.{Contains-permutation, IsPermutation-sym, IsPermutation-map, ranks_by, sorted_far}
 use Rattle.std.proofs.lemmas.Map.Keys.{IsDistinct-IsPermutation}
@@ -15,8 +15,8 @@ use Rattle.jl_names.specs.Names.{is_slash}
 use Rattle.jl_tree.specs.declared.entry.Entry.{Entry}
 use Rattle.jl_tree.specs.Files.{File, file_at, first_part, entry_in, IsListing, Lists}
 use Rattle.jl_tree.proofs.Below.{begins_true, begins_from, below_is, below_some}
-use Rattle.jl_finder.specs.Paths.{path_in, rests, is_nested, is_class_file}
-use Rattle.jl_finder.specs.Folders.{entries_of, entries_in_order, is_there, declaration_name, declaration_in, is_module, top_classes}
+use Rattle.jl_finder.specs.Paths.{rests}
+use Rattle.jl_finder.specs.Folders.{entries_of, is_there, declaration_name, declaration_in, is_module, top_classes}
 use Rattle.jl_finder.specs.Scanning.{AreSorted, AreEntries, IsListed, is_declaration, declares, is_top_class, tops}
 use Rattle.jl_finder.proofs.Members.{name_is, is_name, mapped_from, mapped_in, map_from, map_in, filter_from, filter_in, any_from, any_in, same_bool, in_order_from, in_order_in, in_order_rises, entries_from, entries_have, entries_rise}
 
@@ -194,12 +194,14 @@ some_there files dir (e ∷ es) h = let r = h.only e (contains_head e es) in any
 
 pub listed_none : (o : Option (List File)) (dir : List ℕ) (l : Option (List Entry)) (files : List File) → o ≡ Some files → l ≡ None → IfSome o (λ fs. Lists fs dir l) → IsListed files dir None
 listed_none o dir l files e k h =
-    let w = subst (Lists files dir) k (some_told o (λ fs. Lists fs dir l) files e h) in
-    (none_there files dir w, record {
-  rise = tt;
-  all = λ f x c q. let z : None ≡ Some x = sym (w f c) ∙ q in absurd cc;
-  only = λ x c. contains_nothing x c;
-})
+    let w = subst (Lists files dir) k (some_told o (λ fs. Lists fs dir l) files e h) in (
+      none_there files dir w,
+      record {
+        rise = tt;
+        all = λ f x c q. let z : None ≡ Some x = sym (w f c) ∙ q in absurd cc;
+        only = λ x c. contains_nothing x c;
+      },
+    )
 
 pub listed_some : (o : Option (List File)) (dir : List ℕ) (l : Option (List Entry)) (entries sorted : List Entry) (files : List File) → o ≡ Some files → l ≡ Some entries → IfSome o (λ fs. Lists fs dir l)
     → AreSorted entries sorted → IsListed files dir (Some sorted)

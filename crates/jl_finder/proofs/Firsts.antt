@@ -79,7 +79,6 @@ kept_same done kept keys x n k e m old =
     let g : insert_key same_name keys n ≡ keys = ap (λ t. cond t keys (keys ++ n ∷ [])) old in
     (sym f ∙ ap (λ t. one_more t x) k ∙ sym (first_more done x), g ∙ e)
 
-
 pub first_none : first_of_each [] ≡ []
 unfolding first_of_each
 first_none = refl

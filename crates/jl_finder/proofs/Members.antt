@@ -1,5 +1,5 @@
 -- Members of lists that are filtered, mapped and put in order.
-use Rattle.std.proofs.Common.{◌≡◌, ◌⊎◌, ℕ, List, [], ◌∷◌, ◌++◌, map, filter, Option, None, Some, Bool, true, false, cond, ◌||◌, nat_eq, Contains, inl, inr, ⊎_elim, refl, sym, ◌∙◌, ap, subst, true≢false, Ordering, Less, Equal, Greater}
+use Rattle.std.proofs.Common.{◌≡◌, ◌⊎◌, ℕ, List, [], ◌∷◌, map, filter, Option, None, Some, Bool, true, false, cond, ◌||◌, nat_eq, Contains, inl, inr, ⊎_elim, refl, sym, ◌∙◌, ap, subst, true≢false, Ordering, Less, Equal, Greater}
 use Rattle.std.specs.List.{filter_map, flat_map, list_any, cons_option}
 use Rattle.std.specs.Ordering.{is_eq, ordering_reverse}
 use Rattle.std.specs.Cmp.Lexicographic.{pointwise, nat_list_cmp_total, texts_ties}

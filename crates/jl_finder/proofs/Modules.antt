@@ -1,20 +1,18 @@
 -- One module: its declaration file, the class files beside it, and the limits.
-use Rattle.std.proofs.Common.{◌≡◌, ◌⊎◌, IfSome, ℕ, ◌+◌, List, [], ◌∷◌, ◌++◌, length, map, filter, Option, None, Some, Result, Ok, Err, Bool, true, false, cond, nat_lt, refl, sym, ◌∙◌, ap, subst}
+use Rattle.std.proofs.Common.{◌≡◌, IfSome, ℕ, ◌+◌, List, [], ◌∷◌, length, map, filter, Option, None, Some, Result, Ok, Err, Bool, true, false, cond, nat_lt, refl, sym, ◌∙◌, ap, subst}
 use Rattle.std.specs.List.{find}
 use Rattle.jl_logic.specs.Answers.{Fails, Gives}
 use Rattle.jl_reading.specs.Reading.{◌>>=◌}
 use Rattle.jl_modinfo.specs.Reading.{info_of}
 use Rattle.jl_prim.specs.declared.declaration.Observed.{Observed}
 use Rattle.jl_tree.specs.declared.entry.Entry.{Entry}
-use Rattle.jl_tree.specs.declared.tree.TreeFault.{TreeFault}
-use Rattle.jl_tree.specs.declared.tree.TreeFault.TheVariants.{TooLong}
-use Rattle.jl_tree.specs.Files.{File, file_at, read_of}
+use Rattle.jl_tree.specs.Files.{File, file_at}
 use Rattle.jl_finder.specs.declared.fault.FindFault.{FindFault}
 use Rattle.jl_finder.specs.declared.fault.FindFault.TheVariants as finds
 use Rattle.jl_finder.specs.Paths.{path_in}
 use Rattle.jl_finder.specs.Folders.{declaration_in, folders_below, packages_below, top_classes}
 use Rattle.jl_finder.specs.Observed.{told, Tally, most_bytes, most_folders, observed_or, content_of, declared_by, beside_or, module_at, with_module, with_folders, scan_module}
-use Rattle.jl_finder.specs.Scanning.{AreEntries, is_top_class, tops, walked_from, whole_content}
+use Rattle.jl_finder.specs.Scanning.{AreEntries, is_top_class, walked_from, whole_content}
 use Rattle.jl_finder.proofs.Entries.{tops_are, some_told}
 use Rattle.jl_finder.proofs.Steps.{step_fails, fails_so, step_done, fails_as}
 

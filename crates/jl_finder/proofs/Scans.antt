@@ -1,11 +1,10 @@
 -- Directories and elements: what each step of a scan gives.
-use Rattle.std.proofs.Common.{◌≡◌, ◌<◌, ℕ, ◌+◌, List, [], ◌∷◌, ◌++◌, length, get_or, drop, map, filter, Option, None, Some, IfSome, Result, Ok, Err, Bool, true, false, cond, not, ◌||◌, nat_eq, refl, sym, ◌∙◌, ap, subst, true≢false, append-nil}
+use Rattle.std.proofs.Common.{◌≡◌, ◌<◌, ◌≤◌, ℕ, ◌+◌, List, [], ◌∷◌, ◌++◌, length, get_or, drop, map, Option, None, Some, Result, Ok, Err, Bool, true, false, cond, ◌||◌, nat_eq, refl, sym, ◌∙◌, ap}
 use Rattle.std.specs.List.{list_any}
 use Rattle.std.specs.Cmp.Lexicographic.{pointwise, nat_list_eq_equiv}
-use Rattle.std.proofs.lemmas.List.{drop_more, map-append}
-use Rattle.std.proofs.lemmas.List.Elements.{filter-append}
+use Rattle.std.proofs.lemmas.List.{drop_more, drop_all, map-append}
 use Rattle.indexmap.specs.IndexSet.{insert_key}
-use Rattle.jl_logic.specs.Answers.{Fails, Gives}
+use Rattle.jl_logic.specs.Answers.{Fails}
 use Rattle.jl_logic.specs.Order.{is_text}
 use Rattle.jl_reading.specs.Reading.{◌>>=◌}
 use Rattle.jl_prim.specs.declared.declaration.Observed.{Observed}
@@ -14,12 +13,11 @@ use Rattle.jl_tree.specs.Files.{File}
 use Rattle.jl_finder.specs.declared.fault.FindFault.{FindFault}
 use Rattle.jl_finder.specs.declared.fault.FindFault.TheVariants as finds
 use Rattle.jl_finder.specs.Paths.{path_in, is_archive}
-use Rattle.jl_finder.specs.Folders.{entries_of, is_there, is_module}
-use Rattle.jl_finder.specs.Observed.{told, Tally, with_folders, scan_module, name_of, among, scan_folder, scan_entry, scan_entries, scan_listed, scan_element, scan_elements, first_of_each, found_or, observed}
-use Rattle.jl_finder.specs.Scanning.{AreEntries, IsListed, declares, some_module, folder_found, entry_found, with_found, listed_found, modules_or, elements_found}
-use Rattle.jl_finder.proofs.Members.{name_is}
-use Rattle.jl_finder.proofs.Entries.{declares_is, entries_are}
-use Rattle.jl_finder.proofs.Steps.{step_fails, fails_so, step_done, fails_as}
+use Rattle.jl_finder.specs.Folders.{is_module}
+use Rattle.jl_finder.specs.Observed.{told, Tally, with_folders, scan_module, name_of, among, scan_folder, scan_entry, scan_entries}
+use Rattle.jl_finder.specs.Scanning.{AreEntries, declares, some_module, folder_found, entry_found, with_found}
+use Rattle.jl_finder.proofs.Entries.{declares_is}
+use Rattle.jl_finder.proofs.Steps.{step_fails, fails_so, step_done}
 
 -- ---- a folder of a directory
 
@@ -95,30 +93,41 @@ entry_fails files dir es i x done t e total lt q h so_far =
     fails_so told e _ total (sym so_far ∙ front_is files dir es i x done t lt q)
     (step_fails told e (entry_found files dir x t >>= with_found dir done) (rest_from files dir (drop (i + 1) es)) (step_fails told e (entry_found files dir x t) (with_found dir done) h))
 
--- an entry without a module is passed over
-pub entry_passed : (files : List File) (dir : List ℕ) (es : List Entry) (i : ℕ) (x : Entry) (done : List Observed) (t n : Tally) (total : Result (List Observed × Tally) FindFault) → i < length es → x ≡ get_or es i x
-    → entry_found files dir x t ≡ Ok (None, n) → scan_entries files dir (drop i es) done t ≡ total → scan_entries files dir (drop (i + 1) es) done n ≡ total
-entry_passed files dir es i x done t n total lt q h so_far =
-    sym (ap (λ r. (r >>= with_found dir done) >>= rest_from files dir (drop (i + 1) es)) h) ∙ sym (front_is files dir es i x done t lt q) ∙ so_far
+-- what an entry holds ends the scan
+pub entry_ends : (files : List File) (dir : List ℕ) (es : List Entry) (i : ℕ) (x : Entry) (done : List Observed) (t : Tally) (o : Option Observed × Tally) (e : FindFault) (total : Result (List Observed × Tally) FindFault) → i < length es → x ≡ get_or es i x
+    → entry_found files dir x t ≡ Ok o → Fails told e (with_found dir done o) → scan_entries files dir (drop i es) done t ≡ total → Fails told e total
+entry_ends files dir es i x done t o e total lt q h f so_far =
+    fails_so told e _ total (sym so_far ∙ front_is files dir es i x done t lt q ∙ ap (λ r. r >>= rest_from files dir (drop (i + 1) es)) (step_done (entry_found files dir x t) (with_found dir done) o h))
+    (step_fails told e (with_found dir done o) (rest_from files dir (drop (i + 1) es)) f)
+
+-- what an entry holds goes behind the others
+pub entry_steps : (files : List File) (dir : List ℕ) (es : List Entry) (i : ℕ) (x : Entry) (done after : List Observed) (t n : Tally) (o : Option Observed × Tally) (total : Result (List Observed × Tally) FindFault) → i < length es → x ≡ get_or es i x
+    → entry_found files dir x t ≡ Ok o → with_found dir done o ≡ Ok (after, n) → scan_entries files dir (drop i es) done t ≡ total → scan_entries files dir (drop (i + 1) es) after n ≡ total
+entry_steps files dir es i x done after t n o total lt q h k so_far =
+    sym (step_done (entry_found files dir x t >>= with_found dir done) (rest_from files dir (drop (i + 1) es)) (after, n) (step_done (entry_found files dir x t) (with_found dir done) o h ∙ k))
+    ∙ sym (front_is files dir es i x done t lt q) ∙ so_far
+
+pub entries_over : (files : List File) (dir : List ℕ) (es : List Entry) (i : ℕ) (done : List Observed) (t : Tally) → length es ≤ i → scan_entries files dir (drop i es) done t ≡ Ok (done, t)
+unfolding scan_entries
+entries_over files dir es i done t le = ap (λ xs. scan_entries files dir xs done t) (drop_all i es le)
 
 named_any : (done : List Observed) (n : List ℕ) → list_any (λ (p : Observed). is_text (name_of p) n) done ≡ list_any (pointwise nat_eq n) (map name_of done)
 named_any [] n = refl
 named_any (o ∷ os) n = λ i. nat_list_eq_equiv.symm (name_of o) n i || named_any os n i
 
+seen_as : (done : List Observed) (o : Observed) (keys : List (List ℕ)) (name : List ℕ) → keys ≡ map name_of done → name ≡ name_of o → list_any (λ (p : Observed). is_text (name_of p) (name_of o)) done ≡ list_any (pointwise nat_eq name) keys
+seen_as done o keys name k m = named_any done (name_of o) ∙ (ap (λ z. list_any (pointwise nat_eq z) (map name_of done)) (sym m) ∙ ap (λ z. list_any (pointwise nat_eq name) z) (sym k))
+
 -- a module with a new name goes behind the others
-pub entry_kept : (files : List File) (dir : List ℕ) (es : List Entry) (i : ℕ) (x : Entry) (done : List Observed) (t n : Tally) (o : Observed) (keys : List (List ℕ)) (name : List ℕ) (total : Result (List Observed × Tally) FindFault) → i < length es → x ≡ get_or es i x
-    → entry_found files dir x t ≡ Ok (Some o, n) → keys ≡ map name_of done → name ≡ name_of o → list_any (pointwise nat_eq name) keys ≡ false → scan_entries files dir (drop i es) done t ≡ total
-    → (scan_entries files dir (drop (i + 1) es) (done ++ o ∷ []) n ≡ total) × (insert_key (pointwise nat_eq) keys name ≡ map name_of (done ++ o ∷ []))
-entry_kept files dir es i x done t n o keys name total lt q h k m new so_far =
-    let b : list_any (λ (p : Observed). is_text (name_of p) (name_of o)) done ≡ false = named_any done (name_of o) ∙ (ap (λ z. list_any (pointwise nat_eq z) (map name_of done)) (sym m) ∙ ap (λ z. list_any (pointwise nat_eq name) z) (sym k)) ∙ new in
-    (sym (ap (λ r. (r >>= with_found dir done) >>= rest_from files dir (drop (i + 1) es)) h ∙ ap (λ t2. cond t2 (Err (finds.TwoInDirectory dir (name_of o))) (Ok (done ++ o ∷ [], n)) >>= rest_from files dir (drop (i + 1) es)) b) ∙ sym (front_is files dir es i x done t lt q) ∙ so_far,
-    ap (λ t2. cond t2 keys (keys ++ name ∷ [])) new ∙ (λ j. k j ++ m j ∷ []) ∙ sym (map-append name_of done (o ∷ [])))
+pub among_new : (dir : List ℕ) (done : List Observed) (o : Observed) (keys : List (List ℕ)) (name : List ℕ) (t : Tally) → keys ≡ map name_of done → name ≡ name_of o → list_any (pointwise nat_eq name) keys ≡ false
+    → among dir done (o, t) ≡ Ok (done ++ o ∷ [], t)
+among_new dir done o keys name t k m new = ap (λ b. cond b (Err (finds.TwoInDirectory dir (name_of o))) (Ok (done ++ o ∷ [], t))) (seen_as done o keys name k m ∙ new)
+
+pub names_new : (done : List Observed) (o : Observed) (keys : List (List ℕ)) (name : List ℕ) → keys ≡ map name_of done → name ≡ name_of o → list_any (pointwise nat_eq name) keys ≡ false
+    → insert_key (pointwise nat_eq) keys name ≡ map name_of (done ++ o ∷ [])
+names_new done o keys name k m new = ap (λ b. cond b keys (keys ++ name ∷ [])) new ∙ (λ j. k j ++ m j ∷ []) ∙ sym (map-append name_of done (o ∷ []))
 
 -- a module whose name is there is a fault
-pub entry_twice : (files : List File) (dir : List ℕ) (es : List Entry) (i : ℕ) (x : Entry) (done : List Observed) (t n : Tally) (o : Observed) (keys : List (List ℕ)) (name : List ℕ) (total : Result (List Observed × Tally) FindFault) → i < length es → x ≡ get_or es i x
-    → entry_found files dir x t ≡ Ok (Some o, n) → keys ≡ map name_of done → name ≡ name_of o → list_any (pointwise nat_eq name) keys ≡ true → scan_entries files dir (drop i es) done t ≡ total
-    → total ≡ Err (finds.TwoInDirectory dir (name_of o))
-entry_twice files dir es i x done t n o keys name total lt q h k m old so_far =
-    let b : list_any (λ (p : Observed). is_text (name_of p) (name_of o)) done ≡ true = named_any done (name_of o) ∙ (ap (λ z. list_any (pointwise nat_eq z) (map name_of done)) (sym m) ∙ ap (λ z. list_any (pointwise nat_eq name) z) (sym k)) ∙ old in
-    sym so_far ∙ front_is files dir es i x done t lt q ∙ ap (λ r. (r >>= with_found dir done) >>= rest_from files dir (drop (i + 1) es)) h
-    ∙ ap (λ t2. cond t2 (Err (finds.TwoInDirectory dir (name_of o))) (Ok (done ++ o ∷ [], n)) >>= rest_from files dir (drop (i + 1) es)) b
+pub among_old : (dir : List ℕ) (done : List Observed) (o : Observed) (keys : List (List ℕ)) (name : List ℕ) (t : Tally) → keys ≡ map name_of done → name ≡ name_of o → list_any (pointwise nat_eq name) keys ≡ true
+    → among dir done (o, t) ≡ Err (finds.TwoInDirectory dir (name_of o))
+among_old dir done o keys name t k m old = ap (λ b. cond b (Err (finds.TwoInDirectory dir (name_of o))) (Ok (done ++ o ∷ [], t))) (seen_as done o keys name k m ∙ old)

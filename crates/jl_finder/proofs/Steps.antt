@@ -1,5 +1,5 @@
 -- Steps that end with the first fault, and what a tree may tell.
-use Rattle.std.proofs.Common.{◌≡◌, ◌≤◌, ◌<◌, ◌⊎◌, ℕ, nat_lt, inl, inr, ⊎_elim, arith, List, [], ◌∷◌, ◌++◌, Option, None, Some, Result, Ok, Err, Bool, true, false, cond, refl, sym, ◌∙◌, ap}
+use Rattle.std.proofs.Common.{◌≡◌, ◌≤◌, ◌<◌, ◌⊎◌, ℕ, nat_lt, inl, inr, ⊎_elim, arith, Option, None, Some, Result, Ok, Err, Bool, true, false, refl, ◌∙◌, ap}
 use Rattle.std.specs.Prelude.{MatchOption, ⊤, IfSome}
 use Rattle.jl_logic.specs.Answers.{Fails}
 use Rattle.std.proofs.lemmas.Bool.{ltb-true}

@@ -1,14 +1,14 @@
 -- The folders below a module's folder: what a walk over them knows, and what it has found at its end.
-use Rattle.std.proofs.Common.{◌≡◌, ◌≢◌, ◌⊎◌, ◌≤◌, ◌<◌, ℕ, suc, zero, ◌+◌, ◌-◌, List, [], ◌∷◌, ◌++◌, length, get_or, take, drop, map, filter, Option, None, Some, Result, Ok, Err, Bool, true, false, cond, not, ◌||◌, ◌&&◌, ◌==◌, nat_eq, nat_lt, codes, Contains, inl, inr, ⊎_elim, refl, sym, ◌∙◌, ap, subst, true≢false, append_assoc, append-nil, length-append, Ordering, Less, Equal, Greater, arith, IsPermutation, IsSorted, is_some}
-use Rattle.std.specs.Prelude.{fold, slice_get, IfOk, IfErr}
-use Rattle.std.specs.List.{filter_map, flat_map, list_any, list_all, IsDistinct, AllByRecursion, ends_with}
+use Rattle.std.proofs.Common.{◌≡◌, ◌⊎◌, ◌≤◌, ◌<◌, ℕ, suc, zero, ◌+◌, ◌-◌, List, [], ◌∷◌, ◌++◌, length, get_or, take, map, filter, Option, None, Some, Result, Ok, Err, Bool, true, false, cond, ◌||◌, ◌&&◌, nat_eq, nat_lt, codes, Contains, inl, inr, ⊎_elim, refl, sym, ◌∙◌, ap, subst, true≢false, append_assoc, append-nil, length-append, Ordering, Less, Equal, Greater, arith, IsPermutation, IsSorted}
+use Rattle.std.specs.Prelude.{slice_get, IfOk, IfErr}
+use Rattle.std.specs.List.{flat_map, list_any, list_all, IsDistinct}
 use Rattle.std.specs.Ordering.{is_lt, is_eq, ordering_reverse}
 use Rattle.std.specs.Cmp.Lexicographic.{pointwise, nat_list_cmp_total, nat_list_eq_equiv, texts_ties}
-use Rattle.std.proofs.lemmas.Bool.{cases_Bool, not-true, not-false, lt-ltb, ltb-true}
+use Rattle.std.proofs.lemmas.Bool.{cases_Bool, not-true, lt-ltb, ltb-true}
 use Rattle.std.proofs.lemmas.Bool.Decides.{Decides-eqb}
 use Rattle.std.proofs.lemmas.Slice.Eq.{ends_is}
 use Rattle.std.proofs.lemmas.List.{take_more, take_all}
-use Rattle.std.proofs.lemmas.List.Folds.{list_all-append, list_any-append}
+use Rattle.std.proofs.lemmas.List.Folds.{list_all-append}
 use Rattle.std.proofs.lemmas.List.Elements.{All-contains, All-from_recursion, filter-append, Contains-append_left, Contains-append_right, Contains-append_cases}
 use Rattle.std.proofs.lemmas.List.Sorted.{Contains-permutation, IsPermutation-sym, ranks_by, sorted_far}
 use Rattle.std.proofs.lemmas.Map.Keys.{IsDistinct-IsPermutation}
@@ -16,21 +16,21 @@ use Rattle.std.proofs.lemmas.Map.Made.{length-le_from_is_member}
 use Rattle.std.proofs.lemmas.Map.Views.{list_any-from_Contains, Contains-from_any}
 use Rattle.std.proofs.lemmas.Option.{slice_get_within, get_or_from_slice_get, slice_get-get_or}
 use Rattle.indexmap.specs.IndexSet.{insert_key, insert_all}
-use Rattle.jl_logic.specs.Order.{is_text, name_cmp, RisesBy}
+use Rattle.jl_logic.specs.Order.{name_cmp, RisesBy}
 use Rattle.jl_logic.proofs.Rising.{contains_head, contains_tail, contains_nothing, contains_cases, each_from_members, each_of_member, apart_from_total, same_rising}
 use Rattle.jl_names.specs.Names.{is_slash, parts, with_first, package_of}
 use Rattle.jl_tree.specs.declared.entry.Entry.{Entry}
-use Rattle.jl_tree.specs.Files.{File, entry_in}
+use Rattle.jl_tree.specs.Files.{File}
 use Rattle.jl_finder.specs.declared.fault.FindFault.{FindFault}
 use Rattle.jl_finder.specs.declared.fault.FindFault.TheVariants as finds
-use Rattle.jl_finder.specs.Paths.{path_in, rests, is_nested, fronts, is_class_file, is_walked, in_order}
+use Rattle.jl_finder.specs.Paths.{path_in, rests, is_nested, fronts, is_class_file, is_walked}
 use Rattle.jl_finder.specs.Folders.{entries_of, is_reached, folders_below, packages_below}
 use Rattle.jl_finder.specs.Observed.{told, most_folders}
 use Rattle.jl_finder.specs.declared.walk.Walked.{Walked}
 use Rattle.jl_logic.specs.Answers.{Gives, Fails}
 use Rattle.jl_finder.specs.Scanning.{AreEntries, is_class_entry, is_walked_entry, holds_class, walked_in, walked_from, walked_of, Steps, AreSortedNames}
-use Rattle.jl_finder.proofs.Members.{name_is, is_name, same_bool, map_from, map_in, flat_from, flat_in, filter_from, filter_in, any_from, any_in, in_order_from, in_order_in, in_order_rises}
-use Rattle.jl_finder.proofs.Entries.{both_true, true_both, slash_is, file_entry, entry_file, folder_entry, entry_folder, rest_from, rest_in, entries_are}
+use Rattle.jl_finder.proofs.Members.{name_is, same_bool, map_from, map_in, flat_from, flat_in, filter_from, filter_in, any_from, any_in, in_order_from, in_order_in, in_order_rises}
+use Rattle.jl_finder.proofs.Entries.{both_true, true_both, slash_is, file_entry, entry_file, folder_entry, entry_folder, rest_from, rest_in}
 
 -- ---- names of folders
 
@@ -201,12 +201,12 @@ child_from files place p es r h k c =
     let e = folder_entry (path_in place p) o.0.path m.0 o.2 b.0 in
     let q : p ++ 47 ∷ m.0.name ≡ r = sym (append_assoc p (47 ∷ []) m.0.name) ∙ m.2 in
     subst (IsFolder files place) q (record {
-  reached = reached_is p m.0.name e.2 ∙ true_both _ _ k (true_both _ _ b.1 refl);
-  file = o.0;
-  among = o.1;
-  tail = e.0;
-  path = e.1 ∙ sym (deeper place p m.0.name e.0);
-})
+      reached = reached_is p m.0.name e.2 ∙ true_both _ _ k (true_both _ _ b.1 refl);
+      file = o.0;
+      among = o.1;
+      tail = e.0;
+      path = e.1 ∙ sym (deeper place p m.0.name e.0);
+    })
 
 child_in : (files : List File) (place p n : List ℕ) (es : List Entry) → AreEntries files (path_in place p) es → list_any is_slash n ≡ false → IsFolder files place (p ++ 47 ∷ n) → Contains (walked_in (p ++ 47 ∷ []) es) (p ++ 47 ∷ n)
 child_in files place p n es h s k =
@@ -223,12 +223,12 @@ top_from files place es r h c =
     let o = h.only m.0 t.0 in
     let e = folder_entry place o.0.path m.0 o.2 b.0 in
     subst (IsFolder files place) m.2 (record {
-  reached = whole_reached m.0.name e.2 ∙ true_both _ _ b.1 refl;
-  file = o.0;
-  among = o.1;
-  tail = e.0;
-  path = e.1;
-})
+      reached = whole_reached m.0.name e.2 ∙ true_both _ _ b.1 refl;
+      file = o.0;
+      among = o.1;
+      tail = e.0;
+      path = e.1;
+    })
 
 top_in : (files : List File) (place n : List ℕ) (es : List Entry) → AreEntries files place es → list_any is_slash n ≡ false → IsFolder files place n → Contains (walked_in [] es) n
 top_in files place n es h s k =

@@ -1,5 +1,5 @@
 -- What is in folders, by the flat list of files.
-use Rattle.std.specs.Prelude.{◌≡◌, ℕ, List, [], ◌∷◌, ◌++◌, map, filter, Option, None, Some, Result, Ok, Err, Bool, true, false, not, ◌&&◌, ◌==◌, is_some, codes, if◌then◌else◌}
+use Rattle.std.specs.Prelude.{ℕ, List, [], ◌∷◌, map, filter, Bool, not, ◌&&◌, is_some, codes}
 use Rattle.std.specs.List.{filter_map, flat_map, list_all, list_any}
 use Rattle.jl_logic.specs.Order.{is_text, name_cmp}
 use Rattle.jl_names.specs.Names.{parts, package_of}

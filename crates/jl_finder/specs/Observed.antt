@@ -1,5 +1,5 @@
 -- The modules that path elements give, or the first fault. All elements are scanned in order (`ModuleFinder`).
-use Rattle.std.specs.Prelude.{◌≡◌, ℕ, ◌+◌, nat_lt, List, [], ◌∷◌, ◌++◌, length, filter, Option, None, Some, Result, Ok, Err, Bool, not, if◌then◌else◌}
+use Rattle.std.specs.Prelude.{ℕ, ◌+◌, nat_lt, List, [], ◌∷◌, ◌++◌, length, filter, Option, None, Some, Result, Ok, Err, not, if◌then◌else◌}
 use Rattle.std.specs.List.{list_any}
 use Rattle.jl_logic.specs.Order.{is_text}
 use Rattle.jl_reading.specs.Reading.{◌>>=◌}

@@ -1,12 +1,12 @@
 //! Directories of modules.
 
-ghost use Rattle.std.specs.Prelude.{◌≡◌, ◌≤◌, List, [], Some, IfOk, IsErrOf};
+ghost use Rattle.std.specs.Prelude.{◌≡◌, ◌≤◌, List, [], Some, IfOk, IsErrOf, map};
 ghost use Rattle.jl_logic.specs.Answers.{Gives};
 ghost use Rattle.jl_logic.specs.Counts.{Rose};
 ghost use Rattle.jl_tree.specs.Files.{File};
 ghost use Rattle.jl_finder.specs.declared.fault.FindFault.TheVariants as finds;
-ghost use Rattle.jl_finder.specs.Observed.{told, scan_entries};
-ghost use Rattle.jl_finder.specs.Scanning.{tally_of, folder_found, entry_found};
+ghost use Rattle.jl_finder.specs.Observed.{told, scan_entries, Tally, name_of, among};
+ghost use Rattle.jl_finder.specs.Scanning.{tally_of, folder_found, entry_found, with_found};
 
 use crate::counts::{Counts, one_folder};
 use crate::fault::FindFault;
@@ -31,24 +31,51 @@ pub fn scan_directory<T: Tree>(
     ensures counts { T.faults tree.old ≤ T.faults tree.new }
     ensures read_fault { IsErrOf result FindFault.ReadFault → Rose (T.faults tree.old) (T.faults tree.new) }
 {
-    let mut names = IndexSet::new(alloc);
-    let mut modules = Vec::new(alloc);
+    let mut kept = Kept {
+        names: IndexSet::new(alloc),
+        modules: Vec::new(alloc),
+    };
     let mut so_far = counts;
     for entry in entries {
         let (found, after) = scan_entry(alloc, tree, dir, entry, so_far)?;
         so_far = after;
-        match found {
-            None => {}
-            Some(module) => {
-                let name = module.declaration.name.copy()?;
-                if !names.insert(name)? {
-                    return Err(twice(dir, &module)?);
-                }
-                modules.push(module)?;
-            }
-        }
+        kept = keep_found(dir, kept, found)?;
     }
-    Ok((modules, so_far))
+    Ok((kept.modules, so_far))
+}
+
+/// The modules found so far, in order, and their names.
+#[derive(Drop)]
+struct Kept {
+    names: IndexSet<Name>,
+    modules: Vec<Observed>,
+}
+
+/// What an entry holds goes behind what was found before.
+fn keep_found(dir: &Name, kept: Kept, found: Option<Observed>) -> Result<Kept, FindFault>
+    ensures names { kept.names.keys ≡ map name_of kept.modules.items → IfOk result (λ after. after.names.keys ≡ map name_of after.modules.items) }
+    ensures gives { (t : Tally) → kept.names.keys ≡ map name_of kept.modules.items → Gives told (λ after. (after.modules.items, t)) result (with_found dir.now kept.modules.items (found, t)) }
+    ensures no_read_fault { IsErrOf result FindFault.ReadFault → ⊥ }
+{
+    match found {
+        None => Ok(kept),
+        Some(module) => keep_module(dir, kept, module),
+    }
+}
+
+/// A module goes behind those with other names.
+fn keep_module(dir: &Name, kept: Kept, found: Observed) -> Result<Kept, FindFault>
+    ensures names { kept.names.keys ≡ map name_of kept.modules.items → IfOk result (λ after. after.names.keys ≡ map name_of after.modules.items) }
+    ensures gives { (t : Tally) → kept.names.keys ≡ map name_of kept.modules.items → Gives told (λ after. (after.modules.items, t)) result (among dir.now kept.modules.items (found, t)) }
+    ensures no_read_fault { IsErrOf result FindFault.ReadFault → ⊥ }
+{
+    let mut names = kept.names;
+    let mut modules = kept.modules;
+    if !names.insert(found.declaration.name.copy()?)? {
+        return Err(twice(dir, &found)?);
+    }
+    modules.push(found)?;
+    Ok(Kept { names, modules })
 }
 
 /// The fault of a module whose name another module in the directory has.

@@ -102,11 +102,7 @@ fn folder_at(folders: &IndexSet<Name>, at: usize) -> Result<Option<Name>, CopyEn
 }
 
 /// The folder is a package where a class file is among its entries.
-fn with_package(
-    packages: Vec<Name>,
-    folder: Name,
-    entries: &[Entry],
-) -> Result<Vec<Name>, CopyEnd>
+fn with_package(packages: Vec<Name>, folder: Name, entries: &[Entry]) -> Result<Vec<Name>, CopyEnd>
     ensures { IfOk result (λ after. after.items ≡ (if scanned.holds_class entries.now then packages.items ++ folder ∷ [] else packages.items)) }
 {
     let mut more = packages;

@@ -8,6 +8,6 @@ abbrev pub invariant-loop-entry : goal.invariant-loop-entry
 invariant-loop-entry g l = record {
   same_files : g.T.Tree.files l.tree ≡ g.T.Tree.files l.initial.tree;
   counts : g.T.Tree.faults l.initial.tree ≤ g.T.Tree.faults l.tree;
-  names : l.names.keys ≡ map name_of l.modules.items;
-  gives : (files : List File) → g.T.Tree.files l.initial.tree ≡ Some files → scan_entries files l.dir (drop l.entry-index l.entries) l.modules.items (tally_of l.so_far) ≡ scan_entries files l.dir l.entries [] (tally_of l.fn.counts);
+  names : l.kept.names.keys ≡ map name_of l.kept.modules.items;
+  gives : (files : List File) → g.T.Tree.files l.initial.tree ≡ Some files → scan_entries files l.dir (drop l.entry-index l.entries) l.kept.modules.items (tally_of l.so_far) ≡ scan_entries files l.dir l.entries [] (tally_of l.fn.counts);
 }

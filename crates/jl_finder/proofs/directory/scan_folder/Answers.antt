@@ -1,4 +1,4 @@
-use Rattle.std.proofs.Common.{◌∙◌, sym, ap, subst}
+use Rattle.std.proofs.Common.{◌∙◌, sym, subst}
 use Rattle.std.proofs.lemmas.Result.{err_from_is_err_and}
 use Rattle.jl_finder.specs.Scanning.{AreEntries, tally_of}
 use Rattle.jl_finder.proofs.Scans.{folder_without, folder_fails, folder_done}

@@ -4,7 +4,6 @@ use Rattle.std.specs.Ordering.{is_lt}
 use Rattle.std.proofs.lemmas.List.Sorted.{answers_always, ranks_by}
 use Rattle.jl_logic.specs.Order.{name_cmp}
 use Rattle.jl_tree.specs.declared.entry.Entry.{Entry}
-use Rattle.jl_finder.proofs.Members.{same_bool}
 use Rattle.jl_finder.proofs.listing.sorted.Goals as goal
 
 pub returns : goal.returns

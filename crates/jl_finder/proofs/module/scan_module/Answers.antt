@@ -1,7 +1,6 @@
-use Rattle.std.proofs.Common.{◌∙◌, sym, ap, subst}
+use Rattle.std.proofs.Common.{◌∙◌}
 use Rattle.std.proofs.lemmas.Result.{err_from_is_err_and}
-use Rattle.jl_finder.specs.Scanning.{tally_of, walked_from}
-use Rattle.jl_finder.proofs.Scans.{folder_fails}
+use Rattle.jl_finder.specs.Scanning.{tally_of}
 use Rattle.jl_finder.proofs.Modules.{uncounted, unwalked, unread, scanned_well, walked_packages}
 use Rattle.jl_finder.proofs.module.scan_module.Goals as goal
 

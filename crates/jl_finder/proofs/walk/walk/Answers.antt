@@ -1,4 +1,4 @@
-use Rattle.std.proofs.Common.{rules, [], refl, sym, ap, subst, ◌∙◌, ◌≡◌, ◌-◌, ◌<◌, ⊎_elim, inl, inr, nat_eq, arith}
+use Rattle.std.proofs.Common.{[], refl, ap, subst, ◌∙◌, ◌≡◌, ◌-◌, ⊎_elim, inl, inr, nat_eq, arith}
 use Rattle.std.specs.Cmp.Lexicographic.{pointwise}
 use Rattle.indexmap.specs.IndexSet.{insert_all}
 use Rattle.jl_finder.specs.Scanning.{walked_in}
