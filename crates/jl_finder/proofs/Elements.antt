@@ -22,9 +22,6 @@ listed_is : (files : List File) (element : List ℕ) (t : Tally) → scan_listed
 unfolding scan_listed
 listed_is files element t = refl
 
-pub listed_uncounted : (files : List File) (element : List ℕ) (t : Tally) (e : FindFault) → Fails told e (with_folders 1 t) → Fails told e (listed_found files element t)
-listed_uncounted files element t e h = step_fails told e (with_folders 1 t) (scan_listed files element) h
-
 pub listed_directory : (files : List File) (element : List ℕ) (es : List Entry) (t c : Tally) → AreEntries files element es → with_folders 1 t ≡ Ok c → declares es ≡ false → listed_found files element t ≡ scan_entries files element es [] c
 listed_directory files element es t c h k d =
     step_done (with_folders 1 t) (scan_listed files element) c k ∙ listed_is files element c

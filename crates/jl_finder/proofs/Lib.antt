@@ -6,3 +6,4 @@ pub mod Walks
 pub mod Scans
 pub mod Firsts
 pub mod Elements
+mod Rows

@@ -16,9 +16,6 @@ use Rattle.jl_finder.specs.Scanning.{AreEntries, is_top_class, walked_from, whol
 use Rattle.jl_finder.proofs.Entries.{tops_are, some_told}
 use Rattle.jl_finder.proofs.Steps.{step_fails, fails_so, step_done, fails_as}
 
-pub gives_so : {X Y E F : Type 0} (told : E → Option F) (view : X → Y) (r : Result X E) (d total : Result Y F) → total ≡ d → Gives told view r d → Gives told view r total
-gives_so told view r d total q h = subst (Gives told view r) (sym q) h
-
 -- the same of one module
 pub module_so : (r d total : Result Observed FindFault) → total ≡ d → Gives told (λ o. o) r d → Gives told (λ o. o) r total
 module_so r d total q h = subst (Gives told (λ o. o) r) (sym q) h

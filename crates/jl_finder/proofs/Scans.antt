@@ -21,12 +21,6 @@ use Rattle.jl_finder.proofs.Steps.{step_fails, fails_so, step_done}
 
 -- ---- a folder of a directory
 
-folder_rest : List File → List ℕ → Tally → Result (Option Observed × Tally) FindFault
-folder_rest files place listed = cond (is_module files place) (scan_module files place listed >>= λ x. Ok (some_module x)) (Ok (None, listed))
-
-pub folder_uncounted : (files : List File) (place : List ℕ) (t : Tally) (e : FindFault) → Fails told e (with_folders 1 t) → Fails told e (folder_found files place t)
-folder_uncounted files place t e h = step_fails told e (with_folders 1 t) (λ listed. cond (is_module files place) (scan_module files place listed >>= (λ x. Ok (some_module x))) (Ok (None, listed))) h
-
 counted_folder : (files : List File) (place : List ℕ) (t c : Tally) → with_folders 1 t ≡ Ok c → folder_found files place t ≡ cond (is_module files place) (scan_module files place c >>= (λ x. Ok (some_module x))) (Ok (None, c))
 counted_folder files place t c h = step_done (with_folders 1 t) (λ listed. cond (is_module files place) (scan_module files place listed >>= (λ x. Ok (some_module x))) (Ok (None, listed))) c h
 

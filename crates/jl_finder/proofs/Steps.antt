@@ -32,14 +32,6 @@ pub if_told : {X : Type 0} (o : Option X) (P : X → Type 0) → ((x : X) → o 
 if_told None P h = tt
 if_told (Some x) P h = h x refl
 
--- an error that tells nothing
-pub fails_nothing : {B E F : Type 0} (told : E → Option F) (e : E) (total : Result B F) → told e ≡ None → Fails told e total
-fails_nothing {B} {E} {F} told e total h = by (told e) h
-  where
-    by : (t : Option F) → t ≡ None → MatchOption t ⊤ (λ d. total ≡ Err d)
-    by None k = tt
-    by (Some d) k = absurd cc
-
 -- a count that rose later rose
 pub rose_from : (a b c : ℕ) → a ≤ b → b ≤ c → Rose b c → Rose a c
 rose_from a b c le lf h = ⊎_elim (λ l. inl (omega (arith, le, l))) (λ e. by (nat_lt a c) refl e) h

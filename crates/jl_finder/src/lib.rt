@@ -12,3 +12,6 @@ mod walk;
 
 pub use fault::FindFault;
 pub use finding::find_all;
+
+#[cfg(test)]
+mod tests;
