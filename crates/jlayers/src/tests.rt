@@ -218,6 +218,32 @@ fn commands(rt: HostRuntime) -> Result<(), Fail> {
     Ok(())
 }
 
+// The smallest file with the text SourceFile behind the other entries of its pool.
+fn with_source_text(alloc: Global) -> Result<Vec<u8>, Fail> {
+    let mut pool = Vec::new(alloc);
+    let mut table = Vec::new(alloc);
+    put_text(&mut pool, "module-info")?;
+    pool.extend_from_slice(&[7, 0, 1])?;
+    put_text(&mut pool, "Module")?;
+    put_module(&mut pool, "a", 4)?;
+    put_module(&mut pool, "java.base", 6)?;
+    put_requires(&mut table, 6, 0x8000)?;
+    put_text(&mut pool, "SourceFile")?;
+    file_of(alloc, 9, pool.as_slice(), table.as_slice())
+}
+
+#[test]
+fn another_attribute_is_passed_over(rt: HostRuntime) -> Result<(), Fail> {
+    let alloc = rt.alloc();
+    let mut bytes = with_source_text(alloc)?;
+    assert_eq!(rt; bytes.len(), 113);
+    bytes[84] = 2;
+    bytes.extend_from_slice(&[0, 8, 0, 0, 0, 2, 0, 1])?;
+    let files = one_file(alloc, bytes)?;
+    let got = launched(alloc, "resolve --module-path m a", files, &[], &[])?;
+    same(got.as_str(), SMALLEST)
+}
+
 #[test]
 fn files_that_are_refused(rt: HostRuntime) -> Result<(), Fail> {
     let alloc = rt.alloc();
@@ -229,6 +255,12 @@ fn files_that_are_refused(rt: HostRuntime) -> Result<(), Fail> {
     same(
         got.as_str(),
         "3 refused: Find Info m/a/module-info.class Short 100\n",
+    )?;
+    let most = vec![in alloc; 0; 4194304]?;
+    let got = launched(alloc, line, one_file(alloc, most)?, &[], &[])?;
+    same(
+        got.as_str(),
+        "3 refused: Find Info m/a/module-info.class BadMagic\n",
     )?;
     let large = vec![in alloc; 0; 4194305]?;
     let got = launched(alloc, line, one_file(alloc, large)?, &[], &[])?;
