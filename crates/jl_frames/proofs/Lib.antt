@@ -1,2 +1,3 @@
+pub mod FrameLoop
 mod Rows
 pub mod TagLaws
