@@ -1,3 +1,5 @@
+pub mod ChangeLaws
 pub mod FrameLoop
+pub mod ItemLaws
 mod Rows
 pub mod TagLaws

@@ -1,7 +1,7 @@
 -- Which tags have which form.
 use Rattle.std.proofs.Common.{◌≡◌, ℕ, ◌≤◌, ◌<◌, Bool, true, false, cond, ◌&&◌, Option, None, Some, option_map, refl, subst, arith}
 use Rattle.std.specs.Prelude.{nat_le}
-use Rattle.std.proofs.lemmas.Bool.{cond_both, le-leb, leb-true}
+use Rattle.std.proofs.lemmas.Bool.{cond_both, le-leb, leb-true, lt-leb}
 use Rattle.jl_frames.specs.declared.form.Form.{Form}
 use Rattle.jl_frames.specs.declared.form.Form.TheVariants as forms
 use Rattle.jl_frames.specs.declared.form.TagRow.{TagRow}
@@ -57,3 +57,25 @@ chop_most tag e = let r = in_range tag forms.Chop e in omega arith
 
 pub append_least : (tag : ℕ) → form_of tag ≡ Some forms.Append → 251 ≤ tag
 append_least tag e = let r = in_range tag forms.Append e in omega arith
+
+-- ---- the form of each tag
+
+inside : (tag first last : ℕ) → first ≤ tag → tag ≤ last → (nat_le first tag && nat_le tag last) ≡ true
+inside tag first last a b = rw (le-leb first tag a, le-leb tag last b) refl
+
+and_false : (b : Bool) → (b && false) ≡ false
+and_false true = refl
+and_false false = refl
+
+past : (tag first last : ℕ) → last < tag → (nat_le first tag && nat_le tag last) ≡ false
+past tag first last lt = rw (lt-leb tag last lt) (and_false (nat_le first tag))
+
+pub in_form : (form : Form) (tag : ℕ) → Range form tag → form_of tag ≡ Some form
+unfolding tag_rows
+in_form forms.Same tag r = rw (inside tag 0 63 (omega arith) (omega arith)) refl
+in_form forms.One tag r = rw (past tag 0 63 (omega arith), inside tag 64 127 (omega arith) (omega arith)) refl
+in_form forms.OneExtended tag r = rw r refl
+in_form forms.Chop tag r = rw (past tag 0 63 (omega arith), past tag 64 127 (omega arith), past tag 247 247 (omega arith), inside tag 248 250 (omega arith) (omega arith)) refl
+in_form forms.SameExtended tag r = rw r refl
+in_form forms.Append tag r = rw (past tag 0 63 (omega arith), past tag 64 127 (omega arith), past tag 247 247 (omega arith), past tag 248 250 (omega arith), past tag 251 251 (omega arith), inside tag 252 254 (omega arith) (omega arith)) refl
+in_form forms.Full tag r = rw r refl

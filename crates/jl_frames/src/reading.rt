@@ -200,13 +200,19 @@ fn each_frame(
 ///
 /// The first fault from the left is the answer. `Short(at)` is the first number that is not whole, `BadTag(at)`
 /// and `BadItem(at)` name the place of the tag, and `Trailing` says that bytes follow the last frame.
-#[tactic(auto, unfolding(crate::specs::Reading::frames_of))]
 pub fn read_frames(alloc: Global, bytes: &[u8]) -> Result<Vec<Frame>, FrameFault>
     ensures exact { Gives told (λ fs. fs.items) result (frames_of bytes.now) }
     ensures found { IfOk result (λ fs. IsFrames bytes.now fs.items) }
     ensures only { (fs : List Frame) → IsFrames bytes.now fs → Gives told (λ x. x.items) result (Ok fs) }
     // There is a fault exactly where there are no frames.
     ensures one { ((f : FrameFault) × (frames_of bytes.now ≡ Err f)) ↔ ((fs : List Frame) → IsFrames bytes.now fs → ⊥) }
+{
+    frames(alloc, bytes)
+}
+
+#[tactic(auto, unfolding(crate::specs::Reading::frames_of))]
+fn frames(alloc: Global, bytes: &[u8]) -> Result<Vec<Frame>, FrameFault>
+    ensures { Gives told (λ fs. fs.items) result (frames_of bytes.now) }
 {
     let (count, at) = u16_at::<FrameFault>(bytes, 0)?;
     let (frames, end) = each_frame(alloc, count, bytes, at)?;
