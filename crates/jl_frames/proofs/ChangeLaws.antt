@@ -1,9 +1,7 @@
 -- Frames: what is read is spelled so.
-use Rattle.std.proofs.Common.{◌≡◌, ℕ, ◌+◌, ◌-◌, ◌<◌, ◌≤◌, List, [], ◌∷◌, ◌++◌, length, Option, None, Some, Result, Ok, Err, refl, sym, ap, subst, ◌∙◌, arith, inl, inr}
+use Rattle.std.proofs.Common.{◌≡◌, ℕ, ◌+◌, ◌-◌, ◌<◌, ◌≤◌, List, [], ◌∷◌, ◌++◌, length, Option, None, Some, Ok, refl, sym, ap, subst, ◌∙◌, arith, inl, inr}
 use Rattle.std.specs.List.{AllByRecursion}
 use Rattle.std.proofs.Math.Nat.{mod-eq_of_lt}
-use Rattle.std.proofs.lemmas.List.{length-append}
-use Rattle.std.proofs.lemmas.List.Concat.{flat_map-append}
 use Rattle.byteorder.specs.Endian.{big_bytes}
 use Rattle.jl_reading.specs.Reading.{◌>>=◌, number_at, Stands, IsBytes, two}
 use Rattle.jl_reading.proofs.Steps.{bind_ok, ok_is}
@@ -14,7 +12,6 @@ use Rattle.jl_frames.specs.declared.frame.Frame.{Frame}
 use Rattle.jl_frames.specs.declared.frame.Change.{Change}
 use Rattle.jl_frames.specs.declared.frame.Change.TheVariants as changes
 use Rattle.jl_frames.specs.declared.frame.RawItem.{RawItem}
-use Rattle.jl_frames.specs.declared.fault.FrameFault.{FrameFault}
 use Rattle.jl_frames.specs.declared.fault.FrameFault.TheVariants as faults
 use Rattle.jl_frames.specs.Tags.{form_of}
 use Rattle.jl_frames.specs.Reading.{items_at, form_or, delta_at, stated_at, full_at, change_at, frame_from}
@@ -55,6 +52,24 @@ record FullStands (delta : ℕ) (bytes : List ℕ) (at : ℕ) (made : (Change ×
   stand : Stands bytes at body made.1
   spelled : SpellsFull delta n made.0.1 (255 ∷ two delta ++ body)
 
+-- the parts of a full frame, each behind the one before
+full_made : (delta : ℕ) (bytes : List ℕ) (at n first : ℕ) (locals : List RawItem) (second m third : ℕ) (stack : List RawItem) (next : ℕ)
+    → length locals ≡ n → n < 65536 → length stack ≡ m → m < 65536 → AllByRecursion ItemFits locals → AllByRecursion ItemFits stack
+    → Stands bytes at (two n) first → Stands bytes first (items_bytes locals) second → Stands bytes second (two m) third → Stands bytes third (items_bytes stack) next
+    → FullStands delta bytes at ((changes.Full n, locals ++ stack), next)
+full_made delta bytes at n first locals second m third stack next count few size small fit fit_stack a b c d =
+    let sized : Stands bytes second (two (length stack)) third = subst (λ (k : ℕ). Stands bytes second (two k) third) (sym size) c in
+    let last = Stands-then bytes second (two (length stack)) third (items_bytes stack) next sized d in
+    let behind = Stands-then bytes first (items_bytes locals) second (two (length stack) ++ items_bytes stack) next b last in
+    record {
+      n = n;
+      changed = refl;
+      fit = all_both locals stack fit fit_stack;
+      body = two n ++ (items_bytes locals ++ (two (length stack) ++ items_bytes stack));
+      stand = Stands-then bytes at (two n) first (items_bytes locals ++ (two (length stack) ++ items_bytes stack)) next a behind;
+      spelled = record { locals = locals; stack = stack; parts = refl; locals_counted = count; few_locals = few; small_stack = omega (arith, size, small); spelled = refl };
+    }
+
 full_stands : (delta : ℕ) (bytes : List ℕ) (at : ℕ) (made : (Change × List RawItem) × ℕ) → IsBytes bytes → full_at bytes at ≡ Ok made → FullStands delta bytes at made
 unfolding full_at
 full_stands delta bytes at made fits e =
@@ -65,22 +80,12 @@ full_stands delta bytes at made fits e =
     let d = bind_ok (items_at b.0.0 c.0.0 bytes c.0.1) (λ all. Ok ((changes.Full n, all.0), all.1)) made c.2 in
     let counted = number_stands faults.Short 2 bytes at n a.0.1 fits a.1 in
     let f = items_stand bytes [] n a.0.1 b.0.0 b.0.1 fits counted.0.within b.1 in
-    let counted_stack = number_stands faults.Short 2 bytes b.0.1 c.0.0 c.0.1 fits c.1 in
-    let g = items_stand bytes b.0.0 c.0.0 c.0.1 d.0.0 d.0.1 fits counted_stack.0.within d.1 in
-    let size : Stands bytes b.0.1 (two (length g.xs)) c.0.1 = subst (λ (m : ℕ). Stands bytes b.0.1 (two m) c.0.1) (sym g.count) counted_stack.0 in
+    let sized = number_stands faults.Short 2 bytes b.0.1 c.0.0 c.0.1 fits c.1 in
+    let g = items_stand bytes b.0.0 c.0.0 c.0.1 d.0.0 d.0.1 fits sized.0.within d.1 in
     let parts : d.0.0 ≡ f.xs ++ g.xs = g.parts ∙ ap (λ (xs : List RawItem). xs ++ g.xs) f.parts in
-    let body = two n ++ (items_bytes f.xs ++ (two (length g.xs) ++ items_bytes g.xs)) in
-    let stack = Stands-then bytes b.0.1 (two (length g.xs)) c.0.1 (items_bytes g.xs) d.0.1 size g.stand in
-    let behind = Stands-then bytes a.0.1 (items_bytes f.xs) b.0.1 (two (length g.xs) ++ items_bytes g.xs) d.0.1 f.stand stack in
     subst (λ (m : (Change × List RawItem) × ℕ). FullStands delta bytes at m) (ok_is ((changes.Full n, d.0.0), d.0.1) made d.2)
-    (record {
-      n = n;
-      changed = refl;
-      fit = subst (λ (xs : List RawItem). AllByRecursion ItemFits xs) (sym parts) (all_both f.xs g.xs f.fit g.fit);
-      body = body;
-      stand = Stands-then bytes at (two n) a.0.1 (items_bytes f.xs ++ (two (length g.xs) ++ items_bytes g.xs)) d.0.1 counted.0 behind;
-      spelled = record { locals = f.xs; stack = g.xs; parts = parts; locals_counted = f.count; few_locals = counted.1; small_stack = omega (arith, g.count, counted_stack.1); spelled = refl };
-    })
+    (subst (λ (xs : List RawItem). FullStands delta bytes at ((changes.Full n, xs), d.0.1)) (sym parts)
+    (full_made delta bytes at n a.0.1 f.xs b.0.1 c.0.0 c.0.1 g.xs d.0.1 f.count counted.1 g.count sized.1 f.fit g.fit counted.0 f.stand sized.0 g.stand))
 
 -- ---- a frame by its form
 
@@ -156,7 +161,7 @@ spelt forms.Append bytes at tag first delta made fits r s e h =
       small = x.small;
       fit = p.fit;
       spelled = subst (λ (c : Change). Spells delta.0 c made.0.1 (tag ∷ two delta.0 ++ items_bytes made.0.1)) p.changed
-      (omega (arith, p.count, r.0), omega (arith, p.count, r.1), ap (λ (t : ℕ). t ∷ two delta.0 ++ items_bytes made.0.1) whole);
+          (omega (arith, p.count, r.0), omega (arith, p.count, r.1), ap (λ (t : ℕ). t ∷ two delta.0 ++ items_bytes made.0.1) whole);
     }
 spelt forms.Full bytes at tag first delta made fits r s e h =
     let x = extended bytes at tag first delta fits s e in

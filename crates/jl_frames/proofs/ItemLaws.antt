@@ -1,9 +1,9 @@
 -- Items: what is read is spelled so, and what is spelled so is read.
-use Rattle.std.proofs.Common.{◌≡◌, ℕ, ◌+◌, ◌<◌, ◌≤◌, cond, eqb, List, [], ◌∷◌, ◌++◌, length, Result, Ok, Err, refl, sym, ap, subst, ◌∙◌, append_assoc, arith}
+use Rattle.std.proofs.Common.{◌≡◌, ℕ, ◌+◌, ◌<◌, ◌≤◌, cond, eqb, List, [], ◌∷◌, ◌++◌, length, Result, Ok, refl, sym, subst, arith}
 use Rattle.std.specs.List.{AllByRecursion}
 use Rattle.std.proofs.lemmas.Bool.{cond_both, eqb-true}
 use Rattle.byteorder.specs.Endian.{big_bytes}
-use Rattle.jl_reading.specs.Reading.{◌>>=◌, number_at, Stands, IsBytes, two}
+use Rattle.jl_reading.specs.Reading.{number_at, Stands, IsBytes, two}
 use Rattle.jl_reading.proofs.Steps.{bind_ok, ok_is}
 use Rattle.jl_reading.proofs.Stands.{Stands-nothing, Stands-then, Stands-splits, number_stands, number_again, Along, UnitStands, each_stands, each_again}
 use Rattle.jl_frames.specs.declared.frame.RawItem.{RawItem}

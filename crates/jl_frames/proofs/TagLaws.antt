@@ -1,5 +1,5 @@
 -- Which tags have which form.
-use Rattle.std.proofs.Common.{◌≡◌, ℕ, ◌≤◌, ◌<◌, Bool, true, false, cond, ◌&&◌, Option, None, Some, option_map, refl, subst, arith}
+use Rattle.std.proofs.Common.{◌≡◌, ℕ, ◌≤◌, ◌<◌, Bool, true, false, cond, ◌&&◌, Option, Some, option_map, refl, subst, arith}
 use Rattle.std.specs.Prelude.{nat_le}
 use Rattle.std.proofs.lemmas.Bool.{cond_both, le-leb, leb-true, lt-leb}
 use Rattle.jl_frames.specs.declared.form.Form.{Form}

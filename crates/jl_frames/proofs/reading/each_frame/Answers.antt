@@ -1,7 +1,7 @@
-use Rattle.std.proofs.Common.{◌≡◌, ap, subst, sym, arith, refl}
+use Rattle.std.proofs.Common.{sym, arith}
 use Rattle.std.proofs.lemmas.Result.{err_from_is_err_and}
 use Rattle.jl_reading.proofs.Each.{each_more, each_ends, each_done}
-use Rattle.jl_frames.specs.Reading.{told, base_after, frame_at, frame_from}
+use Rattle.jl_frames.specs.Reading.{told, frame_at}
 use Rattle.jl_frames.proofs.FrameLoop.{base_after-push}
 use Rattle.jl_frames.proofs.reading.each_frame.Goals as goal
 
