@@ -1,5 +1,5 @@
 -- Frames: what is read is spelled so.
-use Rattle.std.proofs.Common.{◌≡◌, ℕ, ◌+◌, ◌-◌, ◌<◌, ◌≤◌, List, [], ◌∷◌, ◌++◌, length, Option, None, Some, Ok, refl, sym, ap, subst, ◌∙◌, arith, inl, inr}
+use Rattle.std.proofs.Common.{◌≡◌, ℕ, ◌+◌, ◌-◌, ◌<◌, ◌≤◌, List, [], ◌∷◌, ◌++◌, length, Option, None, Some, Ok, refl, sym, ap, subst, arith, inl, inr}
 use Rattle.std.specs.List.{AllByRecursion}
 use Rattle.std.proofs.Math.Nat.{mod-eq_of_lt}
 use Rattle.byteorder.specs.Endian.{big_bytes}
@@ -52,22 +52,45 @@ record FullStands (delta : ℕ) (bytes : List ℕ) (at : ℕ) (made : (Change ×
   stand : Stands bytes at body made.1
   spelled : SpellsFull delta n made.0.1 (255 ∷ two delta ++ body)
 
+-- what is behind the locals of a full frame
+record StackStands (bytes : List ℕ) (at n : ℕ) (locals : List RawItem) (made : (Change × List RawItem) × ℕ) : Type 0 where
+  stack : List RawItem
+  is : ((changes.Full n, locals ++ stack), made.1) ≡ made
+  small : length stack < 65536
+  fit : AllByRecursion ItemFits stack
+  stand : Stands bytes at (two (length stack) ++ items_bytes stack) made.1
+
+stack_made : (bytes : List ℕ) (at n : ℕ) (locals : List RawItem) (m first : ℕ) (stack : List RawItem) (next : ℕ) → m < 65536 → length stack ≡ m → AllByRecursion ItemFits stack
+    → Stands bytes at (two m) first → Stands bytes first (items_bytes stack) next → StackStands bytes at n locals ((changes.Full n, locals ++ stack), next)
+stack_made bytes at n locals m first stack next small size fit a b =
+    let sized : Stands bytes at (two (length stack)) first = subst (λ (k : ℕ). Stands bytes at (two k) first) (sym size) a in
+    record { stack = stack; is = refl; small = omega (arith, size, small); fit = fit; stand = Stands-then bytes at (two (length stack)) first (items_bytes stack) next sized b }
+
+stack_stands : (bytes : List ℕ) (at n : ℕ) (locals : List RawItem) (made : (Change × List RawItem) × ℕ) → IsBytes bytes
+    → (number_at faults.Short 2 bytes at >>= λ m. items_at locals m.0 bytes m.1 >>= λ all. Ok ((changes.Full n, all.0), all.1)) ≡ Ok made → StackStands bytes at n locals made
+stack_stands bytes at n locals made fits e =
+    let a = bind_ok (number_at faults.Short 2 bytes at) (λ m. items_at locals m.0 bytes m.1 >>= λ all. Ok ((changes.Full n, all.0), all.1)) made e in
+    let b = bind_ok (items_at locals a.0.0 bytes a.0.1) (λ all. Ok ((changes.Full n, all.0), all.1)) made a.2 in
+    let s = number_stands faults.Short 2 bytes at a.0.0 a.0.1 fits a.1 in
+    let f = items_stand bytes locals a.0.0 a.0.1 b.0.0 b.0.1 fits s.0.within b.1 in
+    subst (λ (m : (Change × List RawItem) × ℕ). StackStands bytes at n locals m) (ok_is ((changes.Full n, b.0.0), b.0.1) made b.2)
+    (subst (λ (xs : List RawItem). StackStands bytes at n locals ((changes.Full n, xs), b.0.1)) (sym f.parts)
+    (stack_made bytes at n locals a.0.0 a.0.1 f.xs b.0.1 s.1 f.count f.fit s.0 f.stand))
+
 -- the parts of a full frame, each behind the one before
-full_made : (delta : ℕ) (bytes : List ℕ) (at n first : ℕ) (locals : List RawItem) (second m third : ℕ) (stack : List RawItem) (next : ℕ)
-    → length locals ≡ n → n < 65536 → length stack ≡ m → m < 65536 → AllByRecursion ItemFits locals → AllByRecursion ItemFits stack
-    → Stands bytes at (two n) first → Stands bytes first (items_bytes locals) second → Stands bytes second (two m) third → Stands bytes third (items_bytes stack) next
+full_made : (delta : ℕ) (bytes : List ℕ) (at n first : ℕ) (locals : List RawItem) (second : ℕ) (stack : List RawItem) (next : ℕ)
+    → length locals ≡ n → n < 65536 → length stack < 65536 → AllByRecursion ItemFits locals → AllByRecursion ItemFits stack
+    → Stands bytes at (two n) first → Stands bytes first (items_bytes locals) second → Stands bytes second (two (length stack) ++ items_bytes stack) next
     → FullStands delta bytes at ((changes.Full n, locals ++ stack), next)
-full_made delta bytes at n first locals second m third stack next count few size small fit fit_stack a b c d =
-    let sized : Stands bytes second (two (length stack)) third = subst (λ (k : ℕ). Stands bytes second (two k) third) (sym size) c in
-    let last = Stands-then bytes second (two (length stack)) third (items_bytes stack) next sized d in
-    let behind = Stands-then bytes first (items_bytes locals) second (two (length stack) ++ items_bytes stack) next b last in
+full_made delta bytes at n first locals second stack next count few small fit fit_stack a b c =
+    let behind = Stands-then bytes first (items_bytes locals) second (two (length stack) ++ items_bytes stack) next b c in
     record {
       n = n;
       changed = refl;
       fit = all_both locals stack fit fit_stack;
       body = two n ++ (items_bytes locals ++ (two (length stack) ++ items_bytes stack));
       stand = Stands-then bytes at (two n) first (items_bytes locals ++ (two (length stack) ++ items_bytes stack)) next a behind;
-      spelled = record { locals = locals; stack = stack; parts = refl; locals_counted = count; few_locals = few; small_stack = omega (arith, size, small); spelled = refl };
+      spelled = record { locals = locals; stack = stack; parts = refl; locals_counted = count; few_locals = few; small_stack = small; spelled = refl };
     }
 
 full_stands : (delta : ℕ) (bytes : List ℕ) (at : ℕ) (made : (Change × List RawItem) × ℕ) → IsBytes bytes → full_at bytes at ≡ Ok made → FullStands delta bytes at made
@@ -76,16 +99,11 @@ full_stands delta bytes at made fits e =
     let a = bind_ok (number_at faults.Short 2 bytes at) (λ n. items_at [] n.0 bytes n.1 >>= λ locals. number_at faults.Short 2 bytes locals.1 >>= λ m. items_at locals.0 m.0 bytes m.1 >>= λ all. Ok ((changes.Full n.0, all.0), all.1)) made e in
     let n = a.0.0 in
     let b = bind_ok (items_at [] n bytes a.0.1) (λ locals. number_at faults.Short 2 bytes locals.1 >>= λ m. items_at locals.0 m.0 bytes m.1 >>= λ all. Ok ((changes.Full n, all.0), all.1)) made a.2 in
-    let c = bind_ok (number_at faults.Short 2 bytes b.0.1) (λ m. items_at b.0.0 m.0 bytes m.1 >>= λ all. Ok ((changes.Full n, all.0), all.1)) made b.2 in
-    let d = bind_ok (items_at b.0.0 c.0.0 bytes c.0.1) (λ all. Ok ((changes.Full n, all.0), all.1)) made c.2 in
-    let counted = number_stands faults.Short 2 bytes at n a.0.1 fits a.1 in
-    let f = items_stand bytes [] n a.0.1 b.0.0 b.0.1 fits counted.0.within b.1 in
-    let sized = number_stands faults.Short 2 bytes b.0.1 c.0.0 c.0.1 fits c.1 in
-    let g = items_stand bytes b.0.0 c.0.0 c.0.1 d.0.0 d.0.1 fits sized.0.within d.1 in
-    let parts : d.0.0 ≡ f.xs ++ g.xs = g.parts ∙ ap (λ (xs : List RawItem). xs ++ g.xs) f.parts in
-    subst (λ (m : (Change × List RawItem) × ℕ). FullStands delta bytes at m) (ok_is ((changes.Full n, d.0.0), d.0.1) made d.2)
-    (subst (λ (xs : List RawItem). FullStands delta bytes at ((changes.Full n, xs), d.0.1)) (sym parts)
-    (full_made delta bytes at n a.0.1 f.xs b.0.1 c.0.0 c.0.1 g.xs d.0.1 f.count counted.1 g.count sized.1 f.fit g.fit counted.0 f.stand sized.0 g.stand))
+    let s = number_stands faults.Short 2 bytes at n a.0.1 fits a.1 in
+    let f = items_stand bytes [] n a.0.1 b.0.0 b.0.1 fits s.0.within b.1 in
+    let k : StackStands bytes b.0.1 n f.xs made = subst (λ (xs : List RawItem). StackStands bytes b.0.1 n xs made) f.parts (stack_stands bytes b.0.1 n b.0.0 made fits b.2) in
+    subst (λ (m : (Change × List RawItem) × ℕ). FullStands delta bytes at m) k.is
+    (full_made delta bytes at n a.0.1 f.xs b.0.1 k.stack made.1 f.count s.1 k.small f.fit k.fit s.0 f.stand k.stand)
 
 -- ---- a frame by its form
 

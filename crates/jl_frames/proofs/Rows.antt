@@ -1,12 +1,13 @@
 -- Worked rows of the definitions.
-use Rattle.std.proofs.Common.{◌≡◌, [], ◌∷◌, Ok, Err, refl}
+use Rattle.std.proofs.Common.{◌≡◌, [], ◌∷◌, None, Some, Ok, Err, refl, arith, inl, inr}
 use Rattle.jl_reading.specs.Reading.{each_at}
 use Rattle.jl_frames.specs.declared.fault.FrameFault.TheVariants as faults
 use Rattle.jl_frames.specs.declared.frame.Change.TheVariants as changes
 use Rattle.jl_frames.specs.declared.frame.RawItem.TheVariants as items
-use Rattle.jl_frames.specs.Tags.{tag_rows}
+use Rattle.jl_frames.specs.declared.form.Form.TheVariants as forms
+use Rattle.jl_frames.specs.Tags.{tag_rows, form_of}
 use Rattle.jl_frames.specs.Reading.{operand_at, item_of, item_at, delta_at, stated_at, full_at, change_at, frame_from, frame_at, frames_of}
-use Rattle.jl_frames.specs.Grammar.{item_bytes}
+use Rattle.jl_frames.specs.Grammar.{item_bytes, Spells, IsFrames}
 
 no_frames : frames_of (0 ∷ 0 ∷ []) ≡ Ok []
 unfolding frames_of each_at frame_at frame_from delta_at change_at tag_rows
@@ -106,3 +107,94 @@ cut_stack_count = refl
 
 an_object : item_bytes (items.Object 258) ≡ 7 ∷ 1 ∷ 2 ∷ []
 an_object = refl
+
+-- ---- the tags
+
+tag_first_same : form_of 0 ≡ Some forms.Same
+unfolding tag_rows
+tag_first_same = refl
+
+tag_last_same : form_of 63 ≡ Some forms.Same
+unfolding tag_rows
+tag_last_same = refl
+
+tag_first_one : form_of 64 ≡ Some forms.One
+unfolding tag_rows
+tag_first_one = refl
+
+tag_last_one : form_of 127 ≡ Some forms.One
+unfolding tag_rows
+tag_last_one = refl
+
+tag_first_of_none : form_of 128 ≡ None
+unfolding tag_rows
+tag_first_of_none = refl
+
+tag_last_of_none : form_of 246 ≡ None
+unfolding tag_rows
+tag_last_of_none = refl
+
+tag_one_more : form_of 247 ≡ Some forms.OneExtended
+unfolding tag_rows
+tag_one_more = refl
+
+tag_first_chop : form_of 248 ≡ Some forms.Chop
+unfolding tag_rows
+tag_first_chop = refl
+
+tag_last_chop : form_of 250 ≡ Some forms.Chop
+unfolding tag_rows
+tag_last_chop = refl
+
+tag_same_more : form_of 251 ≡ Some forms.SameExtended
+unfolding tag_rows
+tag_same_more = refl
+
+tag_first_append : form_of 252 ≡ Some forms.Append
+unfolding tag_rows
+tag_first_append = refl
+
+tag_last_append : form_of 254 ≡ Some forms.Append
+unfolding tag_rows
+tag_last_append = refl
+
+tag_full : form_of 255 ≡ Some forms.Full
+unfolding tag_rows
+tag_full = refl
+
+-- ---- the grammar
+
+short_difference : Spells 3 changes.Same [] (3 ∷ [])
+short_difference = (refl, inl (omega arith, refl))
+
+long_difference : Spells 3 changes.Same [] (251 ∷ 0 ∷ 3 ∷ [])
+long_difference = (refl, inr refl)
+
+one_short : Spells 3 changes.One (items.Object 258 ∷ []) (67 ∷ 7 ∷ 1 ∷ 2 ∷ [])
+one_short = (refl, inl (omega arith, refl))
+
+one_long : Spells 64 changes.One (items.Int ∷ []) (247 ∷ 0 ∷ 64 ∷ 1 ∷ [])
+one_long = (refl, inr refl)
+
+chopped : Spells 3 (changes.Chop 1) [] (250 ∷ 0 ∷ 3 ∷ [])
+chopped = (refl, omega arith, omega arith, refl)
+
+appended : Spells 3 changes.Append (items.Top ∷ items.Null ∷ []) (253 ∷ 0 ∷ 3 ∷ 0 ∷ 5 ∷ [])
+appended = (omega arith, omega arith, refl)
+
+stated : Spells 3 (changes.Full 1) (items.Top ∷ items.Null ∷ []) (255 ∷ 0 ∷ 3 ∷ 0 ∷ 1 ∷ 0 ∷ 0 ∷ 1 ∷ 5 ∷ [])
+stated = record { locals = items.Top ∷ []; stack = items.Null ∷ []; parts = refl; locals_counted = refl; few_locals = omega arith; small_stack = omega arith; spelled = refl }
+
+two_frames : IsFrames (0 ∷ 2 ∷ 3 ∷ 3 ∷ []) (record { offset = 3; change = changes.Same; items = [] } ∷ record { offset = 7; change = changes.Same; items = [] } ∷ [])
+two_frames = record {
+  few = omega arith;
+  text = 3 ∷ 3 ∷ [];
+  spelled = (
+    3 ∷ [],
+    3 ∷ [],
+    record { delta = 3; small = omega arith; placed = refl; fit = tt; spelled = short_difference },
+    (3 ∷ [], [], record { delta = 3; small = omega arith; placed = refl; fit = tt; spelled = short_difference }, refl, refl),
+    refl,
+  );
+  whole = refl;
+}

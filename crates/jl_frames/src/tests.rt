@@ -22,54 +22,44 @@ const STARTS: [usize; 32] = [
     36, 37, 39, 41, 42, 43,
 ];
 
-/// The offset and the change of each of these frames, and where its items begin and end in `ITEMS`.
-const FRAMES: [(u32, Change, usize, usize); 9] = [
-    (3, Change::Same, 0, 0),
-    (9, Change::One, 0, 1),
-    (266, Change::One, 1, 2),
-    (267, Change::Chop(3), 2, 2),
-    (270, Change::Chop(1), 2, 2),
-    (272, Change::Same, 2, 2),
-    (273, Change::Append, 2, 3),
-    (274, Change::Append, 3, 6),
-    (279, Change::Full(2), 6, 10),
-];
-
-const ITEMS: [RawItem; 10] = [
-    RawItem::Int,
-    RawItem::Object(9),
-    RawItem::Top,
-    RawItem::Float,
-    RawItem::Double,
-    RawItem::Long,
-    RawItem::UninitThis,
-    RawItem::Uninit(5),
-    RawItem::Null,
-    RawItem::Object(258),
-];
-
 fn is_frame(frame: &Frame, offset: u32, change: Change, items: &[RawItem]) -> bool {
     frame.offset == offset && frame.change == change && frame.items.as_slice() == items
 }
 
-fn are_frames(frames: &[Frame]) -> bool {
-    for i in 0..9 {
-        let (offset, change, from, to) = FRAMES[i];
-        let is_here = match frames.get(i) {
-            Some(frame) => is_frame(frame, offset, change, &ITEMS[from..to]),
-            None => false,
-        };
-        if !is_here {
+fn are_frames(frames: &[Frame], rows: &[(u32, Change, &[RawItem])]) -> bool {
+    for (frame, row) in frames.iter().zip(rows.iter()) {
+        if !is_frame(frame, row.0, row.1, row.2) {
             return false;
         }
     }
-    frames.len() == 9
+    frames.len() == rows.len()
 }
 
 #[test]
 fn each_form(rt: HostRuntime) -> Result<(), Fail> {
+    let stack_and_locals = [
+        RawItem::UninitThis,
+        RawItem::Uninit(5),
+        RawItem::Null,
+        RawItem::Object(258),
+    ];
+    let rows: [(u32, Change, &[RawItem]); 9] = [
+        (3, Change::Same, &[]),
+        (9, Change::One, &[RawItem::Int]),
+        (266, Change::One, &[RawItem::Object(9)]),
+        (267, Change::Chop(3), &[]),
+        (270, Change::Chop(1), &[]),
+        (272, Change::Same, &[]),
+        (273, Change::Append, &[RawItem::Top]),
+        (
+            274,
+            Change::Append,
+            &[RawItem::Float, RawItem::Double, RawItem::Long],
+        ),
+        (279, Change::Full(2), &stack_and_locals),
+    ];
     let frames = read_frames(rt.alloc(), &EACH)?;
-    assert!(rt; are_frames(&frames));
+    assert!(rt; are_frames(&frames, &rows));
     Ok(())
 }
 
