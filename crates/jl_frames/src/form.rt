@@ -6,16 +6,23 @@ ghost use Rattle.jl_frames.specs.Tags.{tag_rows as rows_of_tags, form_of as form
 /// The form of a frame, which its tag says (JVMS 4.7.4).
 #[derive(Clone, Copy, Debug, PartialEq, Eq)]
 pub enum Form {
+    /// `same_frame`: the tag is the difference of the offsets.
     Same,
+    /// `same_locals_1_stack_item_frame`: the tag is 64 more than the difference, and an item follows.
     One,
+    /// `same_locals_1_stack_item_frame_extended`: the difference follows, and an item.
     OneExtended,
+    /// `chop_frame`: 251 less the tag is the number of locals that go, and the difference follows.
     Chop,
+    /// `same_frame_extended`: the difference follows.
     SameExtended,
+    /// `append_frame`: the difference follows, and the tag less 251 is the number of items behind it.
     Append,
+    /// `full_frame`: the difference follows, then the locals and the stack, each behind their number.
     Full,
 }
 
-/// The tags of one form.
+/// The tags of one form, from the first to the last.
 #[derive(Clone, Copy, Debug, PartialEq, Eq)]
 pub struct TagRow {
     pub first: u8,

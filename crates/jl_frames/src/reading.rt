@@ -199,7 +199,8 @@ fn each_frame(
 /// The frames in the content of a StackMapTable attribute, in their order (JVMS 4.7.4).
 ///
 /// The first fault from the left is the answer. `Short(at)` is the first number that is not whole, `BadTag(at)`
-/// and `BadItem(at)` name the place of the tag, and `Trailing` says that bytes follow the last frame.
+/// and `BadItem(at)` name the place of the tag, and `Trailing` says that bytes follow the last frame. `NoMemory`
+/// says nothing of the bytes.
 pub fn read_frames(alloc: Global, bytes: &[u8]) -> Result<Vec<Frame>, FrameFault>
     ensures exact { Gives told (λ fs. fs.items) result (frames_of bytes.now) }
     ensures found { IfOk result (λ fs. IsFrames bytes.now fs.items) }
