@@ -1,0 +1,12 @@
+//! Class files (JVMS 4): the class that the bytes declare, or the first fault from the left.
+#![tactic(auto)]
+
+mod class;
+mod fault;
+mod member;
+mod reading;
+
+pub use class::ClassDecl;
+pub use fault::ClassFault;
+pub use member::{CodeBytes, FieldDecl, MemberKey, MethodDecl};
+pub use reading::read_class;
