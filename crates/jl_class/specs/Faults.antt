@@ -3,6 +3,8 @@ use Rattle.std.specs.Prelude.{ℕ, Option, None, Some, Result, Ok, Err}
 use Rattle.jl_pool.specs.declared.fault.PoolFault.{PoolFault}
 use Rattle.jl_pool.specs.declared.fault.PoolFault.TheVariants as pools
 use Rattle.jl_class.specs.declared.fault.ClassFault.{ClassFault}
+use Rattle.jl_class.specs.declared.source.Source.{Source}
+use Rattle.jl_class.specs.declared.source.Source.TheVariants as sources
 use Rattle.jl_class.specs.declared.fault.ClassFault.TheVariants as faults
 
 -- what an error tells: the fault, or nothing for want of memory
@@ -24,6 +26,11 @@ short at = faults.Short at
 -- what is not whole inside an attribute whose name index stands at a place
 abbrev pub cut_in : ℕ → ℕ → ClassFault
 cut_in place at = faults.Attribute place
+
+-- what is not whole is short in the file, and makes an attribute wrong inside its content
+abbrev pub cut : Source → ℕ → ClassFault
+cut sources.File at = short at
+cut (sources.Content place) at = cut_in place at
 
 abbrev pub of_pool : PoolFault → ClassFault
 of_pool (pools.Short at) = faults.Short at

@@ -1,5 +1,5 @@
 -- What flags, indices and descriptors mean in a class file (JVMS 4.1, 4.2, 4.3, 4.5, 4.6, 4.7.2).
-use Rattle.std.specs.Prelude.{ℕ, List, Option, None, Some, Result, Ok, Bool, true, false, not, ◌&&◌, ◌||◌, ◌==◌, codes, bit_and, slice_get, if◌then◌else◌}
+use Rattle.std.specs.Prelude.{ℕ, List, Option, None, Some, Result, Ok, Bool, true, false, not, ◌&&◌, ◌||◌, ◌==◌, codes, bit_and, if◌then◌else◌}
 use Rattle.std.specs.List.{list_any}
 use Rattle.std.specs.Option.{option_and_then}
 use Rattle.jl_logic.specs.Order.{is_text}
@@ -11,7 +11,7 @@ use Rattle.jl_names.specs.Names.{names_a_class, names_a_method}
 use Rattle.jl_names.specs.Text.{plain, has_no_lone_surrogate}
 use Rattle.jl_pool.specs.declared.entry.Entry.{Entry}
 use Rattle.jl_pool.specs.declared.entry.Entry.TheVariants as entries
-use Rattle.jl_pool.specs.Pool.{utf8_of, class_of}
+use Rattle.jl_pool.specs.Pool.{utf8_of, class_of, tag_of}
 use Rattle.jl_class.specs.declared.member.FieldDecl.{FieldDecl}
 use Rattle.jl_class.specs.declared.member.MethodDecl.{MethodDecl}
 use Rattle.jl_class.specs.declared.member.MemberKey.{MemberKey}
@@ -71,13 +71,20 @@ has_code flags = not (is_native flags || is_abstract flags)
 
 -- ---- names by the pool
 
--- units without a lone surrogate whose text has a property, as that text
-abbrev pub units_that : (List ℕ → Bool) → List ℕ → Option (List ℕ)
-units_that is_right units = if has_no_lone_surrogate units && is_right (plain units) then Some (plain units) else None
+-- the text of units among which no surrogate stands alone
+abbrev pub paired : List ℕ → Option (List ℕ)
+paired units = if has_no_lone_surrogate units then Some (plain units) else None
+
+abbrev pub paired_text : List Entry → ℕ → Option (List ℕ)
+paired_text pool i = option_and_then paired (utf8_of pool i)
+
+-- a text that has a property
+abbrev pub that : (List ℕ → Bool) → List ℕ → Option (List ℕ)
+that is_right text = if is_right text then Some text else None
 
 -- the text of a Utf8 index, which has a property
 abbrev pub text_that : (List ℕ → Bool) → List Entry → ℕ → Option (List ℕ)
-text_that is_right pool i = option_and_then (units_that is_right) (utf8_of pool i)
+text_that is_right pool i = option_and_then (that is_right) (paired_text pool i)
 
 -- the name that a Class index has
 abbrev pub class_named : List Entry → ℕ → Option (List ℕ)
@@ -87,13 +94,13 @@ class_named pool i = option_and_then (text_that names_a_class pool) (class_of po
 abbrev pub super_named : List Entry → ℕ → Option (Option (List ℕ))
 super_named pool i = if i == 0 then Some None else option_and_then (λ name. Some (Some name)) (class_named pool i)
 
-abbrev pub object : List ℕ
-object = codes "java/lang/Object"
+abbrev pub is_object : List ℕ → Bool
+is_object name = is_text name (codes "java/lang/Object")
 
 -- Only java/lang/Object has no superclass, and that of an interface is java/lang/Object. The flags and the name are those of the class.
 abbrev pub may_extend : ℕ → List ℕ → Option (List ℕ) → Bool
-may_extend flags name None = is_text name object && not (is_interface flags)
-may_extend flags name (Some super) = not (is_interface flags) || is_text super object
+may_extend flags name None = is_object name && not (is_interface flags)
+may_extend flags name (Some super) = not (is_interface flags) || is_object super
 
 -- a Module or a Package entry, which a class file has not
 abbrev pub is_of_modules : Entry → Bool
@@ -150,35 +157,39 @@ is_same_member a b = is_text a.name b.name && is_text a.desc b.desc
 
 -- the member is one of these
 abbrev pub is_member_among : MemberKey → List MemberKey → Bool
-is_member_among key keys = list_any (λ k. is_same_member k key) keys
+is_member_among key keys = list_any (is_same_member key) keys
 
--- ---- constants (JVMS 4.7.2)
-
--- what a field may be set to
-abbrev pub is_constant : Option Entry → Bool
-is_constant (Some (entries.Integer n)) = true
-is_constant (Some (entries.Float n)) = true
-is_constant (Some (entries.Long n)) = true
-is_constant (Some (entries.Double n)) = true
-is_constant (Some (entries.String text)) = true
-is_constant _ = false
+-- ---- constants, by the tags of their entries (JVMS 4.4-A, 4.7.2-A)
 
 -- one of I S C B Z
 abbrev pub is_int_type : List ℕ → Bool
 is_int_type desc = is_text desc (codes "I") || (is_text desc (codes "S") || (is_text desc (codes "C") || (is_text desc (codes "B") || is_text desc (codes "Z"))))
 
--- what a field of a type may be set to
-abbrev pub is_constant_of : List ℕ → Option Entry → Bool
-is_constant_of desc (Some (entries.Integer n)) = is_int_type desc
-is_constant_of desc (Some (entries.Float n)) = is_text desc (codes "F")
-is_constant_of desc (Some (entries.Long n)) = is_text desc (codes "J")
-is_constant_of desc (Some (entries.Double n)) = is_text desc (codes "D")
-is_constant_of desc (Some (entries.String text)) = is_text desc (codes "Ljava/lang/String;")
-is_constant_of desc _ = false
+-- What a field of a type may be set to: an Integer, a Float, a Long, a Double, a String, or nothing.
+abbrev pub constant_tag : List ℕ → Option ℕ
+constant_tag desc =
+    if is_int_type desc then Some 3
+    else if is_text desc (codes "F") then Some 4
+    else if is_text desc (codes "J") then Some 5
+    else if is_text desc (codes "D") then Some 6
+    else if is_text desc (codes "Ljava/lang/String;") then Some 8
+    else None
 
--- The index of the constant of a field with these flags and this type. Only a static field is set to it, so only there its type counts.
+-- the tag is one of these
+abbrev pub is_constant_tag : ℕ → Bool
+is_constant_tag tag = (tag == 3) || ((tag == 4) || ((tag == 5) || ((tag == 6) || (tag == 8))))
+
+abbrev pub is_tag : Option ℕ → ℕ → Bool
+is_tag None tag = false
+is_tag (Some wanted) tag = wanted == tag
+
+-- A field with these flags and this type may have the entry with this tag for its constant. Only a static field is set to it, so only there its type counts.
+abbrev pub may_be_constant : ℕ → List ℕ → Option ℕ → Bool
+may_be_constant flags desc None = false
+may_be_constant flags desc (Some tag) = if is_static flags then is_tag (constant_tag desc) tag else is_constant_tag tag
+
 abbrev pub sets_field : ℕ → List ℕ → List Entry → ℕ → Bool
-sets_field flags desc pool i = if is_static flags then is_constant_of desc (slice_get pool i) else is_constant (slice_get pool i)
+sets_field flags desc pool i = may_be_constant flags desc (tag_of pool i)
 
 -- ---- names of attributes (JVMS 4.7)
 

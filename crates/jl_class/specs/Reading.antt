@@ -81,13 +81,19 @@ once_at cut may one place bytes done at = if is_some done || not may then Err (f
   x ← one (take content.1 bytes) content.0
   Ok (Some x, content.1))
 
+-- the name of an attribute
+unfoldable pub head_at : (ℕ → ClassFault) → List Entry → List ℕ → ℕ → Result (List ℕ × ℕ) ClassFault
+head_at cut pool bytes at = do
+  i ← number_at cut 2 bytes at
+  name ← attribute_or at (text_of pool i.0)
+  Ok (name, i.1)
+
 -- An attribute, behind what was read so far. One of another name is passed over.
 unfoldable pub attribute_at : {V : Type 0} → (ℕ → ℕ → ClassFault) → (List ℕ → Bool) → Bool → (ℕ → List ℕ → ℕ → Result V ClassFault) → List Entry → List ℕ → Option V → ℕ → Result (Option V × ℕ) ClassFault
 attribute_at cut is_read may one pool bytes done at = do
-  i ← number_at (cut at) 2 bytes at
-  name ← attribute_or at (text_of pool i.0)
-  if is_read name then once_at (cut at) may (one at) at bytes done i.1 else (do
-    content ← content_end (cut at) bytes i.1
+  name ← head_at (cut at) pool bytes at
+  if is_read name.0 then once_at (cut at) may (one at) at bytes done name.1 else (do
+    content ← content_end (cut at) bytes name.1
     Ok (done, content.1))
 
 -- so many attributes, behind what was read so far

@@ -3,8 +3,11 @@
 
 mod class;
 mod fault;
+mod flags;
 mod member;
+mod names;
 mod reading;
+mod source;
 
 pub use class::ClassDecl;
 pub use fault::ClassFault;
