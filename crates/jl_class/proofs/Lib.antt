@@ -1,1 +1,4 @@
+mod MemberLaws
+mod PlaceLaws
 mod Rows
+mod StepLaws

@@ -10,8 +10,7 @@ use Rattle.jl_names.specs.Descriptors.{descriptor_read}
 use Rattle.jl_names.specs.Names.{names_a_class, names_a_method}
 use Rattle.jl_names.specs.Text.{plain, has_no_lone_surrogate}
 use Rattle.jl_pool.specs.declared.entry.Entry.{Entry}
-use Rattle.jl_pool.specs.declared.entry.Entry.TheVariants as entries
-use Rattle.jl_pool.specs.Pool.{utf8_of, class_of, tag_of}
+use Rattle.jl_pool.specs.Pool.{utf8_of, class_of, tag_of, entry_tag}
 use Rattle.jl_class.specs.declared.member.FieldDecl.{FieldDecl}
 use Rattle.jl_class.specs.declared.member.MethodDecl.{MethodDecl}
 use Rattle.jl_class.specs.declared.member.MemberKey.{MemberKey}
@@ -102,11 +101,17 @@ abbrev pub may_extend : ℕ → List ℕ → Option (List ℕ) → Bool
 may_extend flags name None = is_object name && not (is_interface flags)
 may_extend flags name (Some super) = not (is_interface flags) || is_object super
 
--- a Module or a Package entry, which a class file has not
+-- the tag of a Module or of a Package
+abbrev pub is_modules_tag : Option ℕ → Bool
+is_modules_tag None = false
+is_modules_tag (Some tag) = (tag == 19) || (tag == 20)
+
+-- a Module or a Package entry, which a class file has not (JVMS 4.4.11, 4.4.12)
 abbrev pub is_of_modules : Entry → Bool
-is_of_modules (entries.Module name) = true
-is_of_modules (entries.Package name) = true
-is_of_modules _ = false
+is_of_modules e = is_modules_tag (entry_tag e)
+
+abbrev pub has_of_modules : List Entry → ℕ → Bool
+has_of_modules pool i = is_modules_tag (tag_of pool i)
 
 -- ---- members
 

@@ -57,14 +57,11 @@ super_at flags name pool bytes at = do
   super ← named_at (super_named pool) bytes at
   if may_extend flags name super.0 then Ok super else Err (faults.Name at)
 
-unfoldable pub interface_at : List Entry → List ℕ → List (List ℕ) → ℕ → Result (List ℕ × ℕ) ClassFault
-interface_at pool bytes done at = named_at (class_named pool) bytes at
-
 -- a count, and so many classes
 unfoldable pub interfaces_at : List Entry → List ℕ → ℕ → Result (List (List ℕ) × ℕ) ClassFault
 interfaces_at pool bytes at = do
   count ← number_at short 2 bytes at
-  each_at (interface_at pool bytes) [] count.0 count.1
+  each_at (λ done. named_at (class_named pool) bytes) [] count.0 count.1
 
 -- ---- attributes, of which those of one name at most are read (JVMS 4.7)
 
@@ -120,8 +117,8 @@ constants_at flags desc pool bytes at = do
   steps_at (attribute_at in_file names_constant_value true (constant_at flags desc pool) pool bytes) count.0 None count.1
 
 -- a handler of a Code attribute (JVMS 4.7.3)
-unfoldable pub handler_at : ℕ → List ℕ → List Handler → ℕ → Result (Handler × ℕ) ClassFault
-handler_at place bytes done at = do
+unfoldable pub handler_at : ℕ → List ℕ → ℕ → Result (Handler × ℕ) ClassFault
+handler_at place bytes at = do
   start ← number_at (cut_in place) 2 bytes at
   end ← number_at (cut_in place) 2 bytes start.1
   target ← number_at (cut_in place) 2 bytes end.1
@@ -131,7 +128,7 @@ handler_at place bytes done at = do
 unfoldable pub handlers_at : ℕ → List ℕ → ℕ → Result (List Handler × ℕ) ClassFault
 handlers_at place bytes at = do
   count ← number_at (cut_in place) 2 bytes at
-  each_at (handler_at place bytes) [] count.0 count.1
+  each_at (λ done. handler_at place bytes) [] count.0 count.1
 
 -- a length in four bytes, and so many bytes
 unfoldable pub long_text_at : ℕ → List ℕ → ℕ → Result (List ℕ × ℕ) ClassFault

@@ -1,13 +1,19 @@
 //! Class files (JVMS 4): the class that the bytes declare, or the first fault from the left.
 #![tactic(auto)]
 
+mod attribute;
 mod class;
+mod code;
 mod fault;
+mod field;
 mod flags;
+mod front;
 mod member;
+mod method;
 mod names;
 mod reading;
 mod source;
+mod table;
 
 pub use class::ClassDecl;
 pub use fault::ClassFault;
