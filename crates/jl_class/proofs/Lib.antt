@@ -1,4 +1,7 @@
+mod AttributeLaws
 mod MemberLaws
 mod PlaceLaws
 mod Rows
+mod Standing
 mod StepLaws
+mod TableLaws
