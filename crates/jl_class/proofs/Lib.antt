@@ -1,4 +1,5 @@
 mod AttributeLaws
+mod ContentLaws
 mod MemberLaws
 mod PlaceLaws
 mod Rows
