@@ -358,8 +358,7 @@ pub attributes_again : {V : Type 0} (count_cut : ℕ → ClassFault) (cut : ℕ 
     → (number_at count_cut 2 bytes at ≡ Ok (length attributes, at + 2)) × (steps_at (attribute_at cut is_read may one pool bytes) (length attributes) None (at + 2) ≡ Ok (all, next))
 attributes_again count_cut cut is_read may one M laws pool bytes at next attributes all d are t =
     let s1 = first (two (length attributes)) (flat_map attribute_bytes attributes) t in
-    let s2 = second (two (length attributes)) (flat_map attribute_bytes attributes) t in
-    (
+    let s2 = second (two (length attributes)) (flat_map attribute_bytes attributes) t in (
       number_read count_cut 2 bytes at (length attributes) (at + 2) are.few s1,
       run_again cut is_read may one M laws pool bytes all [] attributes (at + 2) next d are.fit s2 ∙ ap (λ k. Ok (k, next)) (pick_all M (contents pool is_read attributes) all d.one),
     )

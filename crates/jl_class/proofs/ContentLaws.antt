@@ -1,23 +1,22 @@
 -- The contents of attributes: what is read stands there, and what stands there is read (JVMS 4.7.2 to 4.7.4).
-use Rattle.std.proofs.Common.{◌≡◌, ℕ, ◌+◌, ◌-◌, ◌<◌, ◌≤◌, List, [], ◌∷◌, ◌++◌, length, take, drop, Bool, true, false, eqb, Option, None, Some, Result, Ok, refl, sym, ap, ◌∙◌, subst, arith}
+use Rattle.std.proofs.Common.{◌≡◌, ℕ, ◌+◌, ◌-◌, ◌<◌, ◌≤◌, List, [], ◌∷◌, ◌++◌, length, take, drop, Bool, true, false, eqb, Option, Ok, refl, sym, ap, ◌∙◌, subst, arith}
 use Rattle.std.specs.Prelude.{◌&&◌}
 use Rattle.std.specs.List.{flat_map, AllByRecursion}
 use Rattle.std.proofs.lemmas.Bool.{eqb-true, eq-eqb}
-use Rattle.std.proofs.lemmas.List.{append-nil, length-drop}
-use Rattle.jl_reading.specs.Reading.{Stands, IsBytes, number_at, each_at, two, four}
+use Rattle.std.proofs.lemmas.List.{append-nil, drop_all, length-drop}
+use Rattle.jl_reading.specs.Reading.{Stands, IsBytes, number_at, two, four}
 use Rattle.jl_reading.proofs.Stands.{Stands-from_parts, Stands-parts, Along, each_stands, each_again}
 use Rattle.jl_reading.proofs.Steps.{bind_ok, ok_is}
 use Rattle.jl_prim.specs.declared.declaration.Handler.{Handler}
 use Rattle.jl_pool.specs.declared.entry.Entry.{Entry}
-use Rattle.jl_class.specs.declared.fault.ClassFault.{ClassFault}
 use Rattle.jl_class.specs.declared.fault.ClassFault.TheVariants as faults
 use Rattle.jl_class.specs.declared.member.CodeBytes.{CodeBytes}
 use Rattle.jl_class.specs.Faults.{cut_in}
 use Rattle.jl_class.specs.Meaning.{sets_field, names_frames}
-use Rattle.jl_class.specs.Spelling.{AtMostOne, IsConstant, IsFrames, HandlerFits, CodeFits, IsCode, handler_bytes, code_bytes, counted, measured, attribute_bytes, contents}
-use Rattle.jl_class.specs.Reading.{constant_at, handler_at, handlers_at, long_text_at, content_end, frames_at, inner_at, code_at, attribute_at, steps_at}
-use Rattle.jl_class.proofs.Standing.{Number, number_in, number_read, join, first, second, known, ends_at, bind_to, else_ok}
-use Rattle.jl_class.proofs.AttributeLaws.{Laws, Held, held_reads, passed_content, Declared, AllStand, attributes_stand, attributes_again}
+use Rattle.jl_class.specs.Spelling.{IsConstant, IsFrames, HandlerFits, IsCode, handler_bytes, code_bytes, counted, measured, attribute_bytes}
+use Rattle.jl_class.specs.Reading.{constant_at, handler_at, handlers_at, long_text_at, content_end, frames_at, inner_at, code_at}
+use Rattle.jl_class.proofs.Standing.{number_in, number_read, join, first, second, known, ends_at, bind_to, else_ok}
+use Rattle.jl_class.proofs.AttributeLaws.{Laws, Held, held_reads, passed_content, AllStand, attributes_stand, attributes_again}
 
 pub both : (a b : Bool) → (a && b) ≡ true → (a ≡ true) × (b ≡ true)
 both true b e = (refl, e)
@@ -48,10 +47,6 @@ constant_laws flags desc pool = record { stand = constant_stands flags desc pool
 
 -- ---- frames
 
-nothing_left : (bytes : List ℕ) → drop (length bytes) bytes ≡ []
-nothing_left [] = refl
-nothing_left (b ∷ bytes) = nothing_left bytes
-
 frames_stand : (place : ℕ) (bytes : List ℕ) (at : ℕ) (v : List ℕ) → IsBytes bytes → at ≤ length bytes → frames_at place bytes at ≡ Ok v → (content : List ℕ) × IsFrames content v × Stands bytes at content (length bytes)
 frames_stand place bytes at v b le e =
     let is : drop at bytes ≡ v = ok_is _ _ e in
@@ -60,7 +55,7 @@ frames_stand place bytes at v b le e =
 frames_read : (place : ℕ) (bytes : List ℕ) (at : ℕ) (v content : List ℕ) → IsFrames content v → Stands bytes at content (length bytes) → frames_at place bytes at ≡ Ok v
 frames_read place bytes at v content is s =
     let parts = Stands-parts bytes at content (length bytes) s in
-    let rest : drop at bytes ≡ v = parts ∙ ap (λ (t : List ℕ). content ++ t) (nothing_left bytes) ∙ append-nil content ∙ is in
+    let rest : drop at bytes ≡ v = parts ∙ ap (λ (t : List ℕ). content ++ t) (drop_all (length bytes) bytes (omega arith)) ∙ append-nil content ∙ is in
     ap (λ (t : List ℕ). Ok t) rest
 
 pub frames_laws : Laws frames_at IsFrames

@@ -1,6 +1,8 @@
 mod AttributeLaws
 mod ContentLaws
+mod FileLaws
 mod MemberLaws
+mod MethodLaws
 mod PlaceLaws
 mod Rows
 mod Standing

@@ -1,6 +1,6 @@
 -- Texts that stand in bytes, joined, split and cut, and the numbers among them.
-use Rattle.std.proofs.Common.{◌≡◌, ℕ, ◌+◌, ◌-◌, ◌^◌, ◌<◌, ◌≤◌, List, ◌++◌, length, take, drop, slice_index, Bool, true, false, not, cond, Result, Ok, Err, refl, sym, ap, ◌∙◌, subst, inl, inr, arith}
-use Rattle.std.proofs.lemmas.List.{length-take, length-take-le, take-take, drop-take}
+use Rattle.std.proofs.Common.{◌≡◌, ℕ, ◌+◌, ◌-◌, ◌^◌, ◌<◌, ◌≤◌, List, ◌++◌, length, take, drop, Bool, true, false, not, cond, Result, Ok, Err, refl, sym, ap, ◌∙◌, subst, arith}
+use Rattle.std.proofs.lemmas.List.{length-take-le, take-take, drop-take}
 use Rattle.byteorder.specs.Endian.{big_bytes}
 use Rattle.jl_reading.specs.Reading.{◌>>=◌, Stands, IsBytes, number_at}
 use Rattle.jl_reading.proofs.Stands.{Stands-then, Stands-splits, number_stands, number_again}

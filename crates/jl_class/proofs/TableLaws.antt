@@ -6,7 +6,7 @@ use Rattle.jl_reading.specs.Reading.{◌>>=◌, Stands, IsBytes, number_at, each
 use Rattle.jl_reading.proofs.Steps.{bind_ok, ok_is}
 use Rattle.jl_reading.proofs.Stands.{Along, Stands-nothing}
 use Rattle.jl_class.specs.Spelling.{Match, counted}
-use Rattle.jl_class.proofs.Standing.{Number, number_in, number_read, join, first, second, known, bind_to}
+use Rattle.jl_class.proofs.Standing.{number_in, number_read, join, first, second, known, bind_to}
 
 -- a row stands there that declares the entry, behind those before it
 pub record Row {A B : Type 0} (bytes : List ℕ) (row_bytes : A → List ℕ) (R : A → B → Type 0) (P : List B → B → Type 0) (done : List B) (at : ℕ) (x : B × ℕ) : Type 0 where
