@@ -19,3 +19,6 @@ pub use class::ClassDecl;
 pub use fault::ClassFault;
 pub use member::{CodeBytes, FieldDecl, MemberKey, MethodDecl};
 pub use reading::read_class;
+
+#[cfg(test)]
+mod tests;
