@@ -1,10 +1,10 @@
-mod AttributeLaws
-mod ContentLaws
-mod FileLaws
-mod MemberLaws
-mod MethodLaws
+pub mod AttributeLaws
+pub mod ContentLaws
+pub mod FileLaws
+pub mod MemberLaws
+pub mod MethodLaws
 mod PlaceLaws
 mod Rows
-mod Standing
+pub mod Standing
 mod StepLaws
-mod TableLaws
+pub mod TableLaws
