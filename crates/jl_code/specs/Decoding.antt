@@ -1,0 +1,76 @@
+-- The code of a method as instructions, or as a stub, or the first fault (JVMS 4.7.3, 4.9.1).
+use Rattle.std.specs.Prelude.{ℕ, ◌+◌, nat_lt, List, [], ◌∷◌, length, map, position, Option, None, Some, Result, Ok, Err, Bool, true, false, not, ◌&&◌, ◌||◌, ◌==◌, if◌then◌else◌, is_some, ℤ}
+use Rattle.std.specs.Option.{option_map}
+use Rattle.std.specs.List.{list_any, list_all}
+use Rattle.jl_prim.specs.declared.declaration.Handler.{Handler}
+use Rattle.jl_names.specs.Descriptors.{descriptor_read}
+use Rattle.jl_pool.specs.declared.entry.Entry.{Entry}
+use Rattle.jl_pool.specs.Pool.{class_of}
+use Rattle.jl_code.specs.declared.fault.CodeFault.{CodeFault}
+use Rattle.jl_code.specs.declared.fault.CodeFault.TheVariants as faults
+use Rattle.jl_code.specs.declared.code.Arg.{Arg}
+use Rattle.jl_code.specs.declared.code.Arg.TheVariants as args
+use Rattle.jl_code.specs.declared.code.Instr.{Instr}
+use Rattle.jl_code.specs.declared.code.Code.{Code}
+use Rattle.jl_code.specs.declared.code.Code.TheVariants as codes
+use Rattle.jl_code.specs.References.{described, has_float}
+use Rattle.jl_code.specs.Stubs.{makes_stub}
+use Rattle.jl_code.specs.Walking.{walk}
+
+-- what an error tells: the fault, or nothing for want of memory
+abbrev pub told : CodeFault → Option CodeFault
+told faults.NoMemory = None
+told f = Some f
+
+-- an instruction stands at a place
+abbrev pub stands : List Instr → ℕ → Bool
+stands instrs place = list_any (λ i. i.at == place) instrs
+
+-- each place to which an instruction leads
+abbrev pub leads_right : List Instr → Arg → Bool
+leads_right instrs (args.Target place) = stands instrs place
+leads_right instrs (args.Switch other cases) = stands instrs other && list_all (λ case. stands instrs case.1) cases
+leads_right instrs _ = true
+
+unfoldable pub first_where : {X : Type 0} → (X → Bool) → List X → Option X
+first_where test [] = None
+first_where test (x ∷ xs) = if test x then Some x else first_where test xs
+
+-- the first instruction that leads to a place where none stands
+abbrev pub first_astray : List Instr → Option Instr
+first_astray instrs = first_where (λ i. not (leads_right instrs i.arg)) instrs
+
+-- A handler's range is some instructions, it begins at one, and what it catches is a class or everything.
+abbrev pub is_right_handler : List Entry → List ℕ → List Instr → Handler → Bool
+is_right_handler pool code instrs h =
+    nat_lt h.start h.end && (stands instrs h.start && (stands instrs h.target && ((stands instrs h.end || (h.end == length code)) && ((h.catch_type == 0) || is_some (class_of pool h.catch_type)))))
+
+-- the first handler that is not right
+abbrev pub wrong_handler : List Entry → List ℕ → List Instr → List Handler → Option ℕ
+wrong_handler pool code instrs handlers = position (λ h. not (is_right_handler pool code instrs h)) handlers
+
+abbrev stub_or : List Instr → Option Instr → Code
+stub_or instrs None = codes.Instructions instrs
+stub_or instrs (Some i) = codes.Stub (Some i.op)
+
+-- a stub where the method takes or gives F or D, or where an instruction makes it one
+abbrev pub kind_of : List Entry → List ℕ → List Instr → Code
+kind_of pool desc instrs = if has_float (described (Some desc)) then codes.Stub None else stub_or instrs (first_where (makes_stub pool) instrs)
+
+-- a fault stands before all that follow it
+abbrev pub unless : Option CodeFault → Result Code CodeFault → Result Code CodeFault
+unless (Some f) later = Err f
+unless None later = later
+
+abbrev pub empty : List ℕ → Option CodeFault
+empty [] = Some faults.Empty
+empty (b ∷ bs) = None
+
+-- Branches come before the fault of the walk, since the instructions that were read come before it.
+unfoldable pub code_of : List Entry → List ℕ → List ℕ → List Handler → Result Code CodeFault
+code_of pool desc code handlers =
+    unless (empty code)
+    (unless (option_map (λ i. faults.BadTarget i.at) (first_astray (walk pool code).instrs))
+    (unless (walk pool code).fault
+    (unless (option_map faults.BadRange (wrong_handler pool code (walk pool code).instrs handlers))
+    (Ok (kind_of pool desc (walk pool code).instrs)))))

@@ -1,0 +1,6 @@
+pub mod Operands
+pub mod References
+pub mod Instructions
+pub mod Stubs
+pub mod Walking
+pub mod Decoding

@@ -1,0 +1,10 @@
+//! The instructions of code (JVMS 4.7.3, 6.5).
+#![tactic(auto)]
+
+mod code;
+mod decoding;
+mod fault;
+
+pub use code::{Arg, Code, Instr};
+pub use decoding::decode;
+pub use fault::CodeFault;
