@@ -17,11 +17,6 @@ use Rattle.jl_code.specs.References.{described, has_float}
 use Rattle.jl_code.specs.Stubs.{makes_stub}
 use Rattle.jl_code.specs.Walking.{walk}
 
--- what an error tells: the fault, or nothing for want of memory
-abbrev pub told : CodeFault → Option CodeFault
-told faults.NoMemory = None
-told f = Some f
-
 -- an instruction stands at a place
 abbrev pub stands : List Instr → ℕ → Bool
 stands instrs place = list_any (λ i. i.at == place) instrs

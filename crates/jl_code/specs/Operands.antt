@@ -62,12 +62,16 @@ wide_inc_at at code next = do
 abbrev pub padded : ℕ → ℕ
 padded next = (next + 3) / 4 * 4
 
--- an offset of a tableswitch, whose key is as many above the lowest as there are cases before it
-unfoldable pub table_case : ℕ → List ℕ → ℤ → List (ℤ × ℕ) → ℕ → Result ((ℤ × ℕ) × ℕ) CodeFault
-table_case at code low cases next = do
+-- a key's offset, and where it leads
+unfoldable pub case_at : ℕ → List ℕ → ℤ → ℕ → Result ((ℤ × ℕ) × ℕ) CodeFault
+case_at at code key next = do
   offset ← signed_4 at code next
   place ← target at code offset.0
-  Ok ((low +ℤ pos (length cases), place), offset.1)
+  Ok ((key, place), offset.1)
+
+-- A case of a tableswitch has an offset alone. Its key is as many above the lowest as there are cases before it.
+abbrev pub table_case : ℕ → List ℕ → ℤ → List (ℤ × ℕ) → ℕ → Result ((ℤ × ℕ) × ℕ) CodeFault
+table_case at code low cases next = case_at at code (low +ℤ pos (length cases)) next
 
 -- how many keys there are from the lowest to the highest
 abbrev pub keys_between : ℤ → ℤ → ℕ
@@ -91,13 +95,12 @@ abbrev pub is_above : ℤ → Option (ℤ × ℕ) → Bool
 is_above key None = true
 is_above key (Some case) = int_lt case.0 key
 
--- a pair of a key and an offset
+-- A case of a lookupswitch is a key and its offset.
 unfoldable pub lookup_case : ℕ → List ℕ → List (ℤ × ℕ) → ℕ → Result ((ℤ × ℕ) × ℕ) CodeFault
 lookup_case at code cases next = do
   key ← signed_4 at code next
-  offset ← signed_4 at code key.1
-  place ← target at code offset.0
-  if is_above key.0 (slice_get cases (length cases - 1)) then Ok ((key.0, place), offset.1) else Err (faults.BadTarget at)
+  case ← case_at at code key.0 key.1
+  if is_above key.0 (slice_get cases (length cases - 1)) then Ok case else Err (faults.BadTarget at)
 
 -- The default offset, the count of pairs, which is not negative, and the pairs, whose keys rise.
 unfoldable pub lookup_at : ℕ → List ℕ → ℕ → Result (Arg × ℕ) CodeFault

@@ -2,7 +2,8 @@
 
 ghost use Rattle.std.specs.Prelude.{◌≡◌, ◌<◌, ◌^◌, length};
 ghost use Rattle.jl_logic.specs.Answers.{Gives};
-ghost use Rattle.jl_code.specs.Decoding.{told, code_of};
+ghost use Rattle.jl_code.specs.Told.{told};
+ghost use Rattle.jl_code.specs.Decoding.{code_of};
 
 use crate::code::Code;
 use crate::fault::CodeFault;

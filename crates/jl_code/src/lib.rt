@@ -4,6 +4,8 @@
 mod code;
 mod decoding;
 mod fault;
+mod operands;
+mod switches;
 
 pub use code::{Arg, Code, Instr};
 pub use decoding::decode;
