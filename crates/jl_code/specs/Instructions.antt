@@ -40,10 +40,13 @@ long_or_index i None = args.Index i
 abbrev pub index_arg : List Entry → ℕ → ℕ → Arg
 index_arg pool op i = if op == 20 then long_or_index i (long_of pool i) else args.Index i
 
+abbrev pub named : List Entry → ℕ → ℕ → ℕ → ℕ → Result (Arg × ℕ) CodeFault
+named pool at op i next = if is_right_index pool op i then Ok (index_arg pool op i, next) else Err (faults.BadIndex at)
+
 unfoldable pub index_at : List Entry → ℕ → ℕ → ℕ → List ℕ → ℕ → Result (Arg × ℕ) CodeFault
 index_at pool at op k code next = do
   i ← operand_at at k code next
-  if is_right_index pool op i.0 then Ok (index_arg pool op i.0, i.1) else Err (faults.BadIndex at)
+  named pool at op i.0 i.1
 
 -- an index, the count of the slots, and a zero
 unfoldable pub interface_at : List Entry → ℕ → ℕ → List ℕ → ℕ → Result (Arg × ℕ) CodeFault

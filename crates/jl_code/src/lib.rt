@@ -5,7 +5,10 @@ mod code;
 mod decoding;
 mod fault;
 mod operands;
+mod reading;
+mod references;
 mod switches;
+mod types;
 
 pub use code::{Arg, Code, Instr};
 pub use decoding::decode;
