@@ -65,7 +65,7 @@ empty (b ∷ bs) = None
 unfoldable pub code_of : List Entry → List ℕ → List ℕ → List Handler → Result Code CodeFault
 code_of pool desc code handlers =
     unless (empty code)
-    (unless (option_map (λ i. faults.BadTarget i.at) (first_astray (walk pool code).instrs))
+    (unless (option_map (λ i. faults.BadTarget i.at) (first_astray (walk pool code).instructions))
     (unless (walk pool code).fault
-    (unless (option_map faults.BadRange (wrong_handler pool code (walk pool code).instrs handlers))
-    (Ok (kind_of pool desc (walk pool code).instrs)))))
+    (unless (option_map faults.BadRange (wrong_handler pool code (walk pool code).instructions handlers))
+    (Ok (kind_of pool desc (walk pool code).instructions)))))

@@ -9,6 +9,7 @@ mod reading;
 mod references;
 mod switches;
 mod types;
+mod walking;
 
 pub use code::{Arg, Code, Instr};
 pub use decoding::decode;
