@@ -31,9 +31,9 @@ unfoldable pub first_where : {X : Type 0} → (X → Bool) → List X → Option
 first_where test [] = None
 first_where test (x ∷ xs) = if test x then Some x else first_where test xs
 
--- the first instruction that leads to a place where none stands
-abbrev pub first_astray : List Instr → Option Instr
-first_astray instrs = first_where (λ i. not (leads_right instrs i.arg)) instrs
+-- the place of the first instruction that leads to a place where none stands
+abbrev pub first_astray : List Instr → Option ℕ
+first_astray instrs = option_map (λ i. i.at) (first_where (λ i. not (leads_right instrs i.arg)) instrs)
 
 -- A handler's range is some instructions, it begins at one, and what it catches is a class or everything.
 abbrev pub is_right_handler : List Entry → List ℕ → List Instr → Handler → Bool
@@ -44,13 +44,17 @@ is_right_handler pool code instrs h =
 abbrev pub wrong_handler : List Entry → List ℕ → List Instr → List Handler → Option ℕ
 wrong_handler pool code instrs handlers = position (λ h. not (is_right_handler pool code instrs h)) handlers
 
-abbrev stub_or : List Instr → Option Instr → Code
+-- the opcode of the first instruction that makes a stub
+abbrev pub first_stub : List Entry → List Instr → Option ℕ
+first_stub pool instrs = option_map (λ i. i.op) (first_where (makes_stub pool) instrs)
+
+abbrev pub stub_or : List Instr → Option ℕ → Code
 stub_or instrs None = codes.Instructions instrs
-stub_or instrs (Some i) = codes.Stub (Some i.op)
+stub_or instrs (Some op) = codes.Stub (Some op)
 
 -- a stub where the method takes or gives F or D, or where an instruction makes it one
 abbrev pub kind_of : List Entry → List ℕ → List Instr → Code
-kind_of pool desc instrs = if has_float (described (Some desc)) then codes.Stub None else stub_or instrs (first_where (makes_stub pool) instrs)
+kind_of pool desc instrs = if has_float (described (Some desc)) then codes.Stub None else stub_or instrs (first_stub pool instrs)
 
 -- a fault stands before all that follow it
 abbrev pub unless : Option CodeFault → Result Code CodeFault → Result Code CodeFault
@@ -65,7 +69,7 @@ empty (b ∷ bs) = None
 unfoldable pub code_of : List Entry → List ℕ → List ℕ → List Handler → Result Code CodeFault
 code_of pool desc code handlers =
     unless (empty code)
-    (unless (option_map (λ i. faults.BadTarget i.at) (first_astray (walk pool code).instructions))
+    (unless (option_map faults.BadTarget (first_astray (walk pool code).instructions))
     (unless (walk pool code).fault
     (unless (option_map faults.BadRange (wrong_handler pool code (walk pool code).instructions handlers))
     (Ok (kind_of pool desc (walk pool code).instructions)))))

@@ -3,7 +3,8 @@ use Rattle.std.specs.Prelude.{ℕ, ◌+◌, nat_lt, nat_le, List, [], ◌∷◌,
 use Rattle.std.specs.List.{list_any}
 use Rattle.jl_pool.specs.declared.entry.Entry.{Entry}
 use Rattle.jl_pool.specs.Pool.{tag_of}
-use Rattle.jl_optable.specs.Rows.{is_stub, is_within}
+use Rattle.jl_optable.specs.declared.form.Form.{Form}
+use Rattle.jl_optable.specs.Rows.{form_of, is_within}
 use Rattle.jl_code.specs.declared.code.Arg.{Arg}
 use Rattle.jl_code.specs.declared.code.Arg.TheVariants as args
 use Rattle.jl_code.specs.declared.code.Instr.{Instr}
@@ -30,5 +31,10 @@ arg_makes_stub pool op (args.Number n) = (op == 188) && is_float_array n
 arg_makes_stub pool op (args.Index i) = names_stub pool op i
 arg_makes_stub pool op _ = false
 
+abbrev pub row_makes_stub : Option Form → Bool
+row_makes_stub None = false
+row_makes_stub (Some form) = form.stub
+
+-- an instruction makes a stub by its row, or by what it names
 unfoldable pub makes_stub : List Entry → Instr → Bool
-makes_stub pool i = is_stub i.op || arg_makes_stub pool i.op i.arg
+makes_stub pool i = row_makes_stub (form_of i.op) || arg_makes_stub pool i.op i.arg

@@ -1,15 +1,40 @@
 //! Decoding a method's code.
 
-ghost use Rattle.std.specs.Prelude.{◌≡◌, ◌<◌, ◌^◌, length};
+ghost use Rattle.std.specs.Prelude.{◌≡◌, ◌<◌, ◌^◌, length, Ok};
 ghost use Rattle.jl_logic.specs.Answers.{Gives};
 ghost use Rattle.jl_code.specs.Told.{told};
-ghost use Rattle.jl_code.specs.Decoding.{code_of};
+ghost use Rattle.jl_code.specs.Decoding.{code_of, kind_of as kind};
 
-use crate::code::Code;
+use crate::code::{Code, Instr};
 use crate::fault::CodeFault;
+use crate::handlers::wrong_handler;
+use crate::places::first_astray;
+use crate::references::described;
+use crate::stubs::first_stub;
+use crate::types::has_float;
+use crate::walking::{Walked, walk};
 use jl_pool::Pool;
-use jl_prim::Handler;
+use jl_prim::{Handler, Items};
 use std::alloc::Global;
+
+/// The code as instructions, or as a stub.
+fn kind_of(
+    alloc: Global,
+    pool: &Pool,
+    desc: &[u8],
+    instructions: Items<Instr>,
+) -> Result<Code, CodeFault>
+    ensures { Gives told (λ x. x) result (Ok (kind pool.now desc.now instructions)) }
+{
+    let method = described(alloc, desc)?;
+    if has_float(&method) {
+        return Ok(Code::Stub(None));
+    }
+    match first_stub(alloc, pool, instructions.as_slice())? {
+        Some(op) => Ok(Code::Stub(Some(op))),
+        None => Ok(Code::Instructions(instructions)),
+    }
+}
 
 /// The instructions of a method's code, or that it is a stub (JVMS 4.7.3, 4.9.1, 6.5).
 ///
@@ -18,6 +43,7 @@ use std::alloc::Global;
 /// right in itself. `BadRange` comes behind these, for the first handler that is not right. A method is a stub
 /// where its own descriptor has a parameter or result `F` or `D`, or else by its first instruction that makes
 /// it one.
+#[tactic(auto, unfolding(crate::specs::Decoding::code_of))]
 pub fn decode(
     alloc: Global,
     pool: &Pool,
@@ -28,5 +54,22 @@ pub fn decode(
     requires { length code.now < 2 ^ 32 }
     ensures exact { Gives told (λ x. x) result (code_of pool.now desc.now code.now handlers.now) }
 {
-    Err(CodeFault::NoMemory)
+    if code.is_empty() {
+        return Err(CodeFault::Empty);
+    }
+    let Walked {
+        instructions,
+        fault,
+    } = walk(alloc, pool, code)?;
+    let all = instructions.as_slice();
+    if let Some(at) = first_astray(all) {
+        return Err(CodeFault::BadTarget(at));
+    }
+    if let Some(fault) = fault {
+        return Err(fault);
+    }
+    if let Some(place) = wrong_handler(pool, code, all, handlers) {
+        return Err(CodeFault::BadRange(place));
+    }
+    kind_of(alloc, pool, desc, instructions)
 }

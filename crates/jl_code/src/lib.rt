@@ -4,9 +4,12 @@
 mod code;
 mod decoding;
 mod fault;
+mod handlers;
 mod operands;
+mod places;
 mod reading;
 mod references;
+mod stubs;
 mod switches;
 mod types;
 mod walking;

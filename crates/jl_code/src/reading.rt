@@ -300,7 +300,7 @@ fn wide_at(at: u32, code: &[u8], next: usize) -> Result<(Instr, usize), CodeFaul
 }
 
 /// The row of an opcode.
-fn form_of(op: u8) -> Option<Form>
+pub fn form_of(op: u8) -> Option<Form>
     ensures { result ≡ rows.form_of op }
 {
     let table = op_table();
