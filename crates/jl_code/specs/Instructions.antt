@@ -1,5 +1,5 @@
 -- One instruction at a place, right in itself, and the place after it (JVMS 4.9.1, 6.5).
-use Rattle.std.specs.Prelude.{ℕ, ◌+◌, nat_lt, nat_le, List, length, Option, None, Some, Result, Ok, Err, Bool, true, false, not, ◌&&◌, ◌||◌, ◌==◌, if◌then◌else◌, ℤ}
+use Rattle.std.specs.Prelude.{ℕ, List, Option, None, Some, Result, Ok, Err, Bool, true, false, not, ◌&&◌, ◌||◌, ◌==◌, if◌then◌else◌, ℤ}
 use Rattle.std.specs.Int.{cast_signed, w8}
 use Rattle.jl_reading.specs.Reading.{◌>>=◌}
 use Rattle.jl_pool.specs.declared.entry.Entry.{Entry}
@@ -13,8 +13,8 @@ use Rattle.jl_code.specs.declared.fault.CodeFault.TheVariants as faults
 use Rattle.jl_code.specs.declared.code.Arg.{Arg}
 use Rattle.jl_code.specs.declared.code.Arg.TheVariants as args
 use Rattle.jl_code.specs.declared.code.Instr.{Instr}
-use Rattle.jl_code.specs.Operands.{operand_at, signed_1, signed_2, signed_4, branch_at, inc_at, wide_inc_at, table_at, lookup_at}
-use Rattle.jl_code.specs.References.{has_tag, member_type, is_right_index, is_method, is_slot_count, is_array_of}
+use Rattle.jl_code.specs.Operands.{operand_at, signed_2, signed_4, branch_at, inc_at, wide_inc_at, table_at, lookup_at}
+use Rattle.jl_code.specs.References.{has_tag, member_type, is_right_index, is_slot_count, is_array_of}
 
 -- a signed byte, which for newarray is the type of an array: 4 to 11
 unfoldable pub byte_at : ℕ → ℕ → List ℕ → ℕ → Result (Arg × ℕ) CodeFault

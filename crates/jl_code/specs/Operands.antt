@@ -1,5 +1,5 @@
 -- The operands behind an opcode (JVMS 6.5). Every fault names the place of the instruction, which is the first argument.
-use Rattle.std.specs.Prelude.{ℕ, ◌+◌, ◌-◌, ◌*◌, ◌/◌, ◌^◌, nat_lt, nat_le, List, [], ◌∷◌, length, slice_get, Option, None, Some, Result, Ok, Err, Bool, true, false, not, ◌&&◌, ◌||◌, ◌==◌, if◌then◌else◌, ℤ, pos, negsuc, ◌+ℤ◌, ◌-ℤ◌, int_lt, unsigned_abs}
+use Rattle.std.specs.Prelude.{ℕ, ◌+◌, ◌-◌, ◌*◌, ◌/◌, ◌^◌, nat_lt, nat_le, List, [], length, slice_get, Option, None, Some, Result, Ok, Err, Bool, true, if◌then◌else◌, ℤ, pos, negsuc, ◌+ℤ◌, ◌-ℤ◌, int_lt, unsigned_abs}
 use Rattle.std.specs.Int.{cast_signed, w8, w16, w32}
 use Rattle.jl_reading.specs.Reading.{◌>>=◌, number_at, each_at}
 use Rattle.jl_code.specs.declared.fault.CodeFault.{CodeFault}
@@ -84,11 +84,11 @@ table_at at code next = do
   low ← signed_4 at code other.1
   high ← signed_4 at code low.1
   if int_lt high.0 low.0 then Err (faults.BadTarget at)
-    else if nat_lt (length code) (high.1 + 4 * keys_between low.0 high.0) then Err (faults.ShortOperand at)
-    else (do
-      place ← target at code other.0
-      cases ← each_at (table_case at code low.0) [] (keys_between low.0 high.0) high.1
-      Ok (args.Switch place cases.0, cases.1))
+      else if nat_lt (length code) (high.1 + 4 * keys_between low.0 high.0) then Err (faults.ShortOperand at)
+      else (do
+        place ← target at code other.0
+        cases ← each_at (table_case at code low.0) [] (keys_between low.0 high.0) high.1
+        Ok (args.Switch place cases.0, cases.1))
 
 -- the key is above that of the last case
 abbrev pub is_above : ℤ → Option (ℤ × ℕ) → Bool
@@ -108,8 +108,8 @@ lookup_at at code next = do
   other ← signed_4 at code (padded next)
   count ← operand_at at 4 code other.1
   if nat_le (2 ^ 31) count.0 then Err (faults.BadTarget at)
-    else if nat_lt (length code) (count.1 + 8 * count.0) then Err (faults.ShortOperand at)
-    else (do
-      place ← target at code other.0
-      cases ← each_at (lookup_case at code) [] count.0 count.1
-      Ok (args.Switch place cases.0, cases.1))
+      else if nat_lt (length code) (count.1 + 8 * count.0) then Err (faults.ShortOperand at)
+      else (do
+        place ← target at code other.0
+        cases ← each_at (lookup_case at code) [] count.0 count.1
+        Ok (args.Switch place cases.0, cases.1))

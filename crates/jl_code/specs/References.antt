@@ -1,6 +1,7 @@
 -- What an instruction may name in the pool (JVMS 4.9.1, 6.5).
-use Rattle.std.specs.Prelude.{ℕ, ◌+◌, nat_lt, nat_le, List, [], ◌∷◌, length, slice_get, Option, None, Some, Result, Ok, Err, Bool, true, false, not, ◌&&◌, ◌||◌, ◌==◌, if◌then◌else◌, is_some}
+use Rattle.std.specs.Prelude.{ℕ, ◌+◌, nat_lt, nat_le, List, [], ◌∷◌, Option, None, Some, Result, Ok, Err, Bool, true, false, not, ◌&&◌, ◌||◌, ◌==◌, if◌then◌else◌, is_some}
 use Rattle.std.specs.List.{list_any}
+use Rattle.std.specs.Option.{option_and_then}
 use Rattle.jl_logic.specs.Order.{is_text}
 use Rattle.jl_names.specs.declared.fault.TextFault.{TextFault}
 use Rattle.jl_names.specs.declared.types.BaseType.{BaseType}
@@ -8,9 +9,10 @@ use Rattle.jl_names.specs.declared.types.BaseType.TheVariants.{Prim, Class}
 use Rattle.jl_names.specs.declared.types.FieldType.{FieldType}
 use Rattle.jl_names.specs.declared.types.Descriptor.{Descriptor}
 use Rattle.jl_names.specs.declared.types.Descriptor.TheVariants.{Field, Method}
+use Rattle.jl_names.specs.Text.{plain, has_no_lone_surrogate}
 use Rattle.jl_names.specs.Descriptors.{descriptor_read, slots, brackets}
 use Rattle.jl_pool.specs.declared.entry.Entry.{Entry}
-use Rattle.jl_pool.specs.Pool.{tag_of, text_of, class_of, name_and_type_of, member_of}
+use Rattle.jl_pool.specs.Pool.{tag_of, text_of, utf8_of, class_of, name_and_type_of, member_of}
 
 abbrev pub has_tag : ℕ → Option ℕ → Bool
 has_tag tag None = false
@@ -35,9 +37,16 @@ abbrev pub name_text : List Entry → Option (ℕ × ℕ) → Option (List ℕ)
 name_text pool None = None
 name_text pool (Some named) = text_of pool named.0
 
+-- Of a descriptor each surrogate stands in a pair, else it is none.
+abbrev pub paired : List ℕ → Option (List ℕ)
+paired units = if has_no_lone_surrogate units then Some (plain units) else None
+
+abbrev pub paired_text : List Entry → ℕ → Option (List ℕ)
+paired_text pool i = option_and_then paired (utf8_of pool i)
+
 abbrev pub desc_text : List Entry → Option (ℕ × ℕ) → Option (List ℕ)
 desc_text pool None = None
-desc_text pool (Some named) = text_of pool named.1
+desc_text pool (Some named) = paired_text pool named.1
 
 abbrev pub member_name : List Entry → ℕ → Option (List ℕ)
 member_name pool i = name_text pool (named_by pool (member_of pool i))

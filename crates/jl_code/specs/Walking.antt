@@ -1,5 +1,5 @@
 -- The instructions of code from its start on (JVMS 4.9.1).
-use Rattle.std.specs.Prelude.{◌≡◌, MatchOption, ℕ, zero, suc, ◌+◌, nat_lt, List, [], ◌∷◌, ◌++◌, length, Option, None, Some, Result, Ok, Err, if◌then◌else◌}
+use Rattle.std.specs.Prelude.{◌≡◌, MatchOption, ℕ, zero, suc, nat_lt, List, [], ◌∷◌, ◌++◌, length, Option, None, Some, Result, Ok, Err, if◌then◌else◌}
 use Rattle.jl_pool.specs.declared.entry.Entry.{Entry}
 use Rattle.jl_code.specs.declared.fault.CodeFault.{CodeFault}
 use Rattle.jl_code.specs.declared.code.Instr.{Instr}

@@ -20,12 +20,7 @@ fn is_right_handler(pool: &Pool, code: &[u8], all: &[Instr], handler: &Handler) 
 }
 
 /// The place in the list of the first handler that is not right.
-pub fn wrong_handler(
-    pool: &Pool,
-    code: &[u8],
-    all: &[Instr],
-    handlers: &[Handler],
-) -> Option<usize>
+pub fn wrong_handler(pool: &Pool, code: &[u8], all: &[Instr], handlers: &[Handler]) -> Option<usize>
     ensures { result ≡ words.wrong_handler pool.now code.now all.now handlers.now }
 {
     handlers

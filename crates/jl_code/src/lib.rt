@@ -17,3 +17,6 @@ mod walking;
 pub use code::{Arg, Code, Instr};
 pub use decoding::decode;
 pub use fault::CodeFault;
+
+#[cfg(test)]
+mod tests;

@@ -26,9 +26,7 @@ fn leads_right(all: &[Instr], arg: &Arg) -> bool
 {
     match arg {
         Arg::Target(place) => stands(all, *place),
-        Arg::Switch { other, cases } => {
-            stands(all, *other) && lead_right(all, cases.as_slice())
-        }
+        Arg::Switch { other, cases } => { stands(all, *other) && lead_right(all, cases.as_slice()) }
         _ => true,
     }
 }

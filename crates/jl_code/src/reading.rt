@@ -206,12 +206,7 @@ fn interface_arg(
 
 /// An index of a computed call site, and two bytes.
 #[tactic(auto, unfolding(crate::specs::Instructions::dynamic_at))]
-fn dynamic_arg(
-    pool: &Pool,
-    at: u32,
-    code: &[u8],
-    next: usize,
-) -> Result<(Arg, usize), CodeFault>
+fn dynamic_arg(pool: &Pool, at: u32, code: &[u8], next: usize) -> Result<(Arg, usize), CodeFault>
     requires { next ≤ length code.now }
     ensures exact { result ≡ words.dynamic_at pool.now at code.now next }
     ensures within { IfOk result (λ x. (next ≤ x.1) × (x.1 ≤ length code.now)) }

@@ -24,12 +24,7 @@ fn padded(next: usize) -> usize
 
 /// Where the offset at a place leads, with its key, and the place after it.
 #[tactic(auto, unfolding(crate::specs::Operands::case_at))]
-fn case_at(
-    at: u32,
-    code: &[u8],
-    key: i32,
-    next: usize,
-) -> Result<((i32, u32), usize), CodeFault>
+fn case_at(at: u32, code: &[u8], key: i32, next: usize) -> Result<((i32, u32), usize), CodeFault>
     requires small { length code.now < 2 ^ 32 }
     requires placed { next ≤ length code.now }
     ensures exact { result ≡ words.case_at at code.now key next }
@@ -75,12 +70,7 @@ fn table_cases(
 
 /// What follows the opcode of a tableswitch, and the place after it.
 #[tactic(auto, unfolding(crate::specs::Operands::table_at))]
-pub fn table_at(
-    alloc: Global,
-    at: u32,
-    code: &[u8],
-    next: usize,
-) -> Result<(Arg, usize), CodeFault>
+pub fn table_at(alloc: Global, at: u32, code: &[u8], next: usize) -> Result<(Arg, usize), CodeFault>
     requires small { length code.now < 2 ^ 32 }
     requires placed { next ≤ length code.now }
     ensures exact { Gives told (λ x. x) result (words.table_at at code.now next) }
