@@ -1,6 +1,6 @@
 -- One instruction at a place, right in itself, and the place after it (JVMS 4.9.1, 6.5).
 use Rattle.std.specs.Prelude.{ℕ, List, Option, None, Some, Result, Ok, Err, Bool, true, false, not, ◌&&◌, ◌||◌, ◌==◌, if◌then◌else◌, ℤ}
-use Rattle.std.specs.Int.{cast_signed, w8}
+use Rattle.std.specs.Int.{cast_signed, w8, w16, w32}
 use Rattle.jl_reading.specs.Reading.{◌>>=◌}
 use Rattle.jl_pool.specs.declared.entry.Entry.{Entry}
 use Rattle.jl_pool.specs.Pool.{tag_of, long_of}
@@ -13,19 +13,24 @@ use Rattle.jl_code.specs.declared.fault.CodeFault.TheVariants as faults
 use Rattle.jl_code.specs.declared.code.Arg.{Arg}
 use Rattle.jl_code.specs.declared.code.Arg.TheVariants as args
 use Rattle.jl_code.specs.declared.code.Instr.{Instr}
-use Rattle.jl_code.specs.Operands.{operand_at, signed_2, signed_4, branch_at, inc_at, wide_inc_at, table_at, lookup_at}
+use Rattle.jl_code.specs.Operands.{operand_at, branch_at, inc_at, wide_inc_at, table_at, lookup_at}
 use Rattle.jl_code.specs.References.{has_tag, member_type, is_right_index, is_slot_count, is_array_of}
 
--- a signed byte, which for newarray is the type of an array: 4 to 11
+-- of newarray the byte is the type of an array: 4 to 11
+abbrev pub is_byte_for : ℕ → ℕ → Bool
+is_byte_for op n = not (op == 188) || is_within 4 11 n
+
+-- a signed byte
 unfoldable pub byte_at : ℕ → ℕ → List ℕ → ℕ → Result (Arg × ℕ) CodeFault
 byte_at at op code next = do
   n ← operand_at at 1 code next
-  if (op == 188) && not (is_within 4 11 n.0) then Err (faults.BadIndex at) else Ok (args.Number (cast_signed w8 n.0), n.1)
+  if is_byte_for op n.0 then Ok (args.Number (cast_signed w8 n.0), n.1) else Err (faults.BadIndex at)
 
+-- a signed number of two bytes
 unfoldable pub short_at : ℕ → List ℕ → ℕ → Result (Arg × ℕ) CodeFault
 short_at at code next = do
-  n ← signed_2 at code next
-  Ok (args.Number n.0, n.1)
+  n ← operand_at at 2 code next
+  Ok (args.Number (cast_signed w16 n.0), n.1)
 
 unfoldable pub local_at : ℕ → ℕ → List ℕ → ℕ → Result (Arg × ℕ) CodeFault
 local_at at k code next = do
@@ -48,13 +53,17 @@ index_at pool at op k code next = do
   i ← operand_at at k code next
   named pool at op i.0 i.1
 
+-- An interface's method, with the count of its slots and a zero.
+abbrev pub is_interface : List Entry → ℕ → ℕ → ℕ → ℕ → Bool
+is_interface pool op i count nothing = is_right_index pool op i && (is_slot_count count (member_type pool i) && (nothing == 0))
+
 -- an index, the count of the slots, and a zero
 unfoldable pub interface_at : List Entry → ℕ → ℕ → List ℕ → ℕ → Result (Arg × ℕ) CodeFault
 interface_at pool at op code next = do
   i ← operand_at at 2 code next
   count ← operand_at at 1 code i.1
   nothing ← operand_at at 1 code count.1
-  if is_right_index pool op i.0 && (is_slot_count count.0 (member_type pool i.0) && (nothing.0 == 0)) then Ok (args.Index i.0, nothing.1) else Err (faults.BadIndex at)
+  if is_interface pool op i.0 count.0 nothing.0 then Ok (args.Index i.0, nothing.1) else Err (faults.BadIndex at)
 
 -- an index, and two bytes
 unfoldable pub dynamic_at : List Entry → ℕ → List ℕ → ℕ → Result (Arg × ℕ) CodeFault
@@ -79,8 +88,8 @@ arg_at pool at op kinds.Local code next = local_at at 1 code next
 arg_at pool at op kinds.Index1 code next = index_at pool at op 1 code next
 arg_at pool at op kinds.Index2 code next = index_at pool at op 2 code next
 arg_at pool at op kinds.Inc code next = inc_at at code next
-arg_at pool at op kinds.Target2 code next = branch_at at code (signed_2 at code next)
-arg_at pool at op kinds.Target4 code next = branch_at at code (signed_4 at code next)
+arg_at pool at op kinds.Target2 code next = branch_at at 2 w16 code next
+arg_at pool at op kinds.Target4 code next = branch_at at 4 w32 code next
 arg_at pool at op kinds.Table code next = table_at at code next
 arg_at pool at op kinds.Lookup code next = lookup_at at code next
 arg_at pool at op kinds.Interface code next = interface_at pool at op code next

@@ -5,3 +5,4 @@ pub mod Instructions
 pub mod Stubs
 pub mod Walking
 pub mod Decoding
+pub mod Spelling

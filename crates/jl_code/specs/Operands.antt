@@ -1,6 +1,6 @@
 -- The operands behind an opcode (JVMS 6.5). Every fault names the place of the instruction, which is the first argument.
 use Rattle.std.specs.Prelude.{ℕ, ◌+◌, ◌-◌, ◌*◌, ◌/◌, ◌^◌, nat_lt, nat_le, List, [], length, slice_get, Option, None, Some, Result, Ok, Err, Bool, true, if◌then◌else◌, ℤ, pos, negsuc, ◌+ℤ◌, ◌-ℤ◌, int_lt, unsigned_abs}
-use Rattle.std.specs.Int.{cast_signed, w8, w16, w32}
+use Rattle.std.specs.Int.{Width, cast_signed, w8, w16, w32}
 use Rattle.jl_reading.specs.Reading.{◌>>=◌, number_at, each_at}
 use Rattle.jl_code.specs.declared.fault.CodeFault.{CodeFault}
 use Rattle.jl_code.specs.declared.fault.CodeFault.TheVariants as faults
@@ -11,17 +11,7 @@ use Rattle.jl_code.specs.declared.code.Arg.TheVariants as args
 abbrev pub operand_at : ℕ → ℕ → List ℕ → ℕ → Result (ℕ × ℕ) CodeFault
 operand_at at k code next = number_at (λ _. faults.ShortOperand at) k code next
 
--- signed numbers in one, two and four bytes
-abbrev pub signed_1 : ℕ → List ℕ → ℕ → Result (ℤ × ℕ) CodeFault
-signed_1 at code next = do
-  n ← operand_at at 1 code next
-  Ok (cast_signed w8 n.0, n.1)
-
-abbrev pub signed_2 : ℕ → List ℕ → ℕ → Result (ℤ × ℕ) CodeFault
-signed_2 at code next = do
-  n ← operand_at at 2 code next
-  Ok (cast_signed w16 n.0, n.1)
-
+-- a signed number in four bytes
 abbrev pub signed_4 : ℕ → List ℕ → ℕ → Result (ℤ × ℕ) CodeFault
 signed_4 at code next = do
   n ← operand_at at 4 code next
@@ -36,25 +26,25 @@ place_or fault code (negsuc n) = Err fault
 abbrev pub target : ℕ → List ℕ → ℤ → Result ℕ CodeFault
 target at code offset = place_or (faults.BadTarget at) code (pos at +ℤ offset)
 
--- an offset of a branch, and where it leads
-unfoldable pub branch_at : ℕ → List ℕ → Result (ℤ × ℕ) CodeFault → Result (Arg × ℕ) CodeFault
-branch_at at code read = do
-  offset ← read
-  place ← target at code offset.0
+-- an offset of a branch in k bytes, and where it leads
+unfoldable pub branch_at : ℕ → ℕ → Width → List ℕ → ℕ → Result (Arg × ℕ) CodeFault
+branch_at at k w code next = do
+  offset ← operand_at at k code next
+  place ← target at code (cast_signed w offset.0)
   Ok (args.Target place, offset.1)
 
 -- what iinc adds to a local: the local's number and a signed number, of one byte each, or of two where they are wide
 unfoldable pub inc_at : ℕ → List ℕ → ℕ → Result (Arg × ℕ) CodeFault
 inc_at at code next = do
   local ← operand_at at 1 code next
-  n ← signed_1 at code local.1
-  Ok (args.Inc local.0 n.0, n.1)
+  n ← operand_at at 1 code local.1
+  Ok (args.Inc local.0 (cast_signed w8 n.0), n.1)
 
 unfoldable pub wide_inc_at : ℕ → List ℕ → ℕ → Result (Arg × ℕ) CodeFault
 wide_inc_at at code next = do
   local ← operand_at at 2 code next
-  n ← signed_2 at code local.1
-  Ok (args.Inc local.0 n.0, n.1)
+  n ← operand_at at 2 code local.1
+  Ok (args.Inc local.0 (cast_signed w16 n.0), n.1)
 
 -- ---- switches
 

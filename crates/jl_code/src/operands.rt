@@ -3,7 +3,7 @@
 //! Each function gets the place of the instruction, which its faults have.
 
 ghost use Rattle.std.specs.Prelude.{◌≡◌, ◌≤◌, ◌<◌, ◌+◌, ◌^◌, length, IfOk};
-ghost use Rattle.jl_code.specs.Operands.{operand_at, signed_1, signed_2, signed_4, target as target_of};
+ghost use Rattle.jl_code.specs.Operands.{operand_at, signed_4, target as target_of};
 
 use crate::fault::CodeFault;
 use byteorder::{BigEndian, ByteOrder};
@@ -42,26 +42,6 @@ pub fn u32_at(at: u32, code: &[u8], next: usize) -> Result<(u32, usize), CodeFau
         return Err(CodeFault::ShortOperand(at));
     }
     Ok((BigEndian::read_u32(&code[next..]), next + 4))
-}
-
-/// The signed number in a byte, and the place after it.
-pub fn i8_at(at: u32, code: &[u8], next: usize) -> Result<(i8, usize), CodeFault>
-    requires { next ≤ length code.now + 3 }
-    ensures exact { result ≡ signed_1 at code.now next }
-    ensures within { IfOk result (λ x. (x.1 ≡ next + 1) × (x.1 ≤ length code.now)) }
-{
-    let (n, next) = byte_at(at, code, next)?;
-    Ok((n.cast_signed(), next))
-}
-
-/// The signed number in two bytes, and the place after them.
-pub fn i16_at(at: u32, code: &[u8], next: usize) -> Result<(i16, usize), CodeFault>
-    requires { next ≤ length code.now + 3 }
-    ensures exact { result ≡ signed_2 at code.now next }
-    ensures within { IfOk result (λ x. (x.1 ≡ next + 2) × (x.1 ≤ length code.now)) }
-{
-    let (n, next) = u16_at(at, code, next)?;
-    Ok((n.cast_signed(), next))
 }
 
 /// The signed number in four bytes, and the place after them.

@@ -1,6 +1,7 @@
 //! One instruction, right in itself (JVMS 4.9.1, 6.5).
 
 ghost use Rattle.std.specs.Prelude.{◌≡◌, ◌≤◌, ◌<◌, ◌^◌, length, IfOk};
+ghost use Rattle.std.specs.Int.{w16, w32};
 ghost use Rattle.jl_logic.specs.Answers.{Gives};
 ghost use Rattle.jl_optable.specs.Rows as rows;
 ghost use Rattle.jl_code.specs.Told.{told};
@@ -9,7 +10,7 @@ ghost use Rattle.jl_code.specs.Instructions as words;
 
 use crate::code::{Arg, Instr};
 use crate::fault::CodeFault;
-use crate::operands::{byte_at, i8_at, i16_at, i32_at, target, u16_at};
+use crate::operands::{byte_at, target, u16_at, u32_at};
 use crate::references::{is_array_of, is_right_index, is_slot_count, member_type};
 use crate::switches::{lookup_at, table_at};
 use jl_optable::{Form, Operands, op_table};
@@ -37,8 +38,8 @@ fn short_arg(at: u32, code: &[u8], next: usize) -> Result<(Arg, usize), CodeFaul
     ensures exact { result ≡ words.short_at at code.now next }
     ensures within { IfOk result (λ x. (next ≤ x.1) × (x.1 ≤ length code.now)) }
 {
-    let (n, next) = i16_at(at, code, next)?;
-    Ok((Arg::Number(n as i32), next))
+    let (n, next) = u16_at(at, code, next)?;
+    Ok((Arg::Number(n.cast_signed() as i32), next))
 }
 
 /// A local in one byte.
@@ -71,8 +72,8 @@ fn inc_arg(at: u32, code: &[u8], next: usize) -> Result<(Arg, usize), CodeFault>
     ensures within { IfOk result (λ x. (next ≤ x.1) × (x.1 ≤ length code.now)) }
 {
     let (local, next) = byte_at(at, code, next)?;
-    let (n, next) = i8_at(at, code, next)?;
-    Ok((Arg::Inc(local as u16, n as i32), next))
+    let (n, next) = byte_at(at, code, next)?;
+    Ok((Arg::Inc(local as u16, n.cast_signed() as i32), next))
 }
 
 /// A local and what is added to it, each in two bytes.
@@ -83,8 +84,8 @@ fn wide_inc_arg(at: u32, code: &[u8], next: usize) -> Result<(Arg, usize), CodeF
     ensures within { IfOk result (λ x. (next ≤ x.1) × (x.1 ≤ length code.now)) }
 {
     let (local, next) = u16_at(at, code, next)?;
-    let (n, next) = i16_at(at, code, next)?;
-    Ok((Arg::Inc(local, n as i32), next))
+    let (n, next) = u16_at(at, code, next)?;
+    Ok((Arg::Inc(local, n.cast_signed() as i32), next))
 }
 
 /// A branch with an offset of two bytes.
@@ -92,11 +93,11 @@ fn wide_inc_arg(at: u32, code: &[u8], next: usize) -> Result<(Arg, usize), CodeF
 fn branch_arg(at: u32, code: &[u8], next: usize) -> Result<(Arg, usize), CodeFault>
     requires small { length code.now < 2 ^ 32 }
     requires placed { next ≤ length code.now }
-    ensures exact { result ≡ operands.branch_at at code.now (operands.signed_2 at code.now next) }
+    ensures exact { result ≡ operands.branch_at at 2 w16 code.now next }
     ensures within { IfOk result (λ x. (next ≤ x.1) × (x.1 ≤ length code.now)) }
 {
-    let (offset, next) = i16_at(at, code, next)?;
-    let place = target(at, code, offset as i32)?;
+    let (offset, next) = u16_at(at, code, next)?;
+    let place = target(at, code, offset.cast_signed() as i32)?;
     Ok((Arg::Target(place), next))
 }
 
@@ -105,11 +106,11 @@ fn branch_arg(at: u32, code: &[u8], next: usize) -> Result<(Arg, usize), CodeFau
 fn far_branch_arg(at: u32, code: &[u8], next: usize) -> Result<(Arg, usize), CodeFault>
     requires small { length code.now < 2 ^ 32 }
     requires placed { next ≤ length code.now }
-    ensures exact { result ≡ operands.branch_at at code.now (operands.signed_4 at code.now next) }
+    ensures exact { result ≡ operands.branch_at at 4 w32 code.now next }
     ensures within { IfOk result (λ x. (next ≤ x.1) × (x.1 ≤ length code.now)) }
 {
-    let (offset, next) = i32_at(at, code, next)?;
-    let place = target(at, code, offset)?;
+    let (offset, next) = u32_at(at, code, next)?;
+    let place = target(at, code, offset.cast_signed())?;
     Ok((Arg::Target(place), next))
 }
 
