@@ -1,3 +1,5 @@
+pub mod Branches
+pub mod Chains
 pub mod Rows
 pub mod Tellings
 pub mod Walks
