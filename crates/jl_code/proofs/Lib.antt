@@ -1,4 +1,5 @@
-pub mod Branches
+pub mod Marks
+pub mod Offsets
 pub mod Chains
 pub mod Rows
 pub mod Tellings

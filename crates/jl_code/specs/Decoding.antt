@@ -14,34 +14,32 @@ use Rattle.jl_code.specs.declared.code.Code.{Code}
 use Rattle.jl_code.specs.declared.code.Code.TheVariants as codes
 use Rattle.jl_code.specs.References.{described, has_float}
 use Rattle.jl_code.specs.Stubs.{makes_stub}
+use Rattle.jl_code.specs.declared.walking.Walked.{Walked}
+use Rattle.jl_code.specs.Places.{places, stands}
 use Rattle.jl_code.specs.Walking.{walk}
 
--- an instruction stands at a place
-abbrev pub stands : List Instr → ℕ → Bool
-stands instrs place = list_any (λ i. i.at == place) instrs
-
--- each place to which an instruction leads
-abbrev pub leads_right : List Instr → Arg → Bool
-leads_right instrs (args.Target place) = stands instrs place
-leads_right instrs (args.Switch other cases) = stands instrs other && list_all (λ case. stands instrs case.1) cases
-leads_right instrs _ = true
+-- each place to which an instruction leads is one where one stands
+abbrev pub leads_right : (ℕ → Bool) → Arg → Bool
+leads_right is_start (args.Target place) = is_start place
+leads_right is_start (args.Switch other cases) = is_start other && list_all (λ case. is_start case.1) cases
+leads_right is_start _ = true
 
 unfoldable pub first_where : {X : Type 0} → (X → Bool) → List X → Option X
 first_where test [] = None
 first_where test (x ∷ xs) = if test x then Some x else first_where test xs
 
 -- the place of the first instruction that leads to a place where none stands
-abbrev pub first_astray : List Instr → Option ℕ
-first_astray instrs = option_map (λ i. i.at) (first_where (λ i. not (leads_right instrs i.arg)) instrs)
+abbrev pub first_astray : (ℕ → Bool) → List Instr → Option ℕ
+first_astray is_start instrs = option_map (λ i. i.at) (first_where (λ i. not (leads_right is_start i.arg)) instrs)
 
 -- A handler's range is some instructions, it begins at one, and what it catches is a class or everything.
-abbrev pub is_right_handler : List Entry → List ℕ → List Instr → Handler → Bool
-is_right_handler pool code instrs h =
-    nat_lt h.start h.end && (stands instrs h.start && (stands instrs h.target && ((stands instrs h.end || (h.end == length code)) && ((h.catch_type == 0) || is_some (class_of pool h.catch_type)))))
+abbrev pub is_right_handler : List Entry → List ℕ → (ℕ → Bool) → Handler → Bool
+is_right_handler pool code is_start h =
+    nat_lt h.start h.end && (is_start h.start && (is_start h.target && ((is_start h.end || (h.end == length code)) && ((h.catch_type == 0) || is_some (class_of pool h.catch_type)))))
 
 -- the first handler that is not right
-abbrev pub wrong_handler : List Entry → List ℕ → List Instr → List Handler → Option ℕ
-wrong_handler pool code instrs handlers = position (λ h. not (is_right_handler pool code instrs h)) handlers
+abbrev pub wrong_handler : List Entry → List ℕ → (ℕ → Bool) → List Handler → Option ℕ
+wrong_handler pool code is_start handlers = position (λ h. not (is_right_handler pool code is_start h)) handlers
 
 -- the opcode of the first instruction that makes a stub
 abbrev pub first_stub : List Entry → List Instr → Option ℕ
@@ -64,11 +62,13 @@ abbrev pub empty : List ℕ → Option CodeFault
 empty [] = Some faults.Empty
 empty (b ∷ bs) = None
 
--- Branches come before the fault of the walk, since the instructions that were read come before it.
+-- Branches of the instructions that were read come before the fault of the walk, which stands behind them.
+abbrev pub judged : List Entry → List ℕ → List ℕ → List Handler → (ℕ → Bool) → Walked → Result Code CodeFault
+judged pool desc code handlers is_start walked =
+    unless (option_map faults.BadTarget (first_astray is_start walked.instructions))
+    (unless walked.fault
+    (unless (option_map faults.BadRange (wrong_handler pool code is_start handlers))
+    (Ok (kind_of pool desc walked.instructions))))
+
 unfoldable pub code_of : List Entry → List ℕ → List ℕ → List Handler → Result Code CodeFault
-code_of pool desc code handlers =
-    unless (empty code)
-    (unless (option_map faults.BadTarget (first_astray (walk pool code).instructions))
-    (unless (walk pool code).fault
-    (unless (option_map faults.BadRange (wrong_handler pool code (walk pool code).instructions handlers))
-    (Ok (kind_of pool desc (walk pool code).instructions)))))
+code_of pool desc code handlers = unless (empty code) (judged pool desc code handlers (stands (places code)) (walk pool code))

@@ -6,3 +6,4 @@ pub mod Stubs
 pub mod Walking
 pub mod Decoding
 pub mod Spelling
+pub mod Places

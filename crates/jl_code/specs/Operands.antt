@@ -11,12 +11,6 @@ use Rattle.jl_code.specs.declared.code.Arg.TheVariants as args
 abbrev pub operand_at : ℕ → ℕ → List ℕ → ℕ → Result (ℕ × ℕ) CodeFault
 operand_at at k code next = number_at (λ _. faults.ShortOperand at) k code next
 
--- a signed number in four bytes
-abbrev pub signed_4 : ℕ → List ℕ → ℕ → Result (ℤ × ℕ) CodeFault
-signed_4 at code next = do
-  n ← operand_at at 4 code next
-  Ok (cast_signed w32 n.0, n.1)
-
 -- a place inside the code
 abbrev pub place_or : CodeFault → List ℕ → ℤ → Result ℕ CodeFault
 place_or fault code (pos place) = if nat_lt place (length code) then Ok place else Err fault
@@ -55,8 +49,8 @@ padded next = (next + 3) / 4 * 4
 -- a key's offset, and where it leads
 unfoldable pub case_at : ℕ → List ℕ → ℤ → ℕ → Result ((ℤ × ℕ) × ℕ) CodeFault
 case_at at code key next = do
-  offset ← signed_4 at code next
-  place ← target at code offset.0
+  offset ← operand_at at 4 code next
+  place ← target at code (cast_signed w32 offset.0)
   Ok ((key, place), offset.1)
 
 -- A case of a tableswitch has an offset alone. Its key is as many above the lowest as there are cases before it.
@@ -70,15 +64,15 @@ keys_between low high = unsigned_abs (high -ℤ low) + 1
 -- The default offset, the lowest and the highest key, and an offset for each of them. The table is whole before it is judged.
 unfoldable pub table_at : ℕ → List ℕ → ℕ → Result (Arg × ℕ) CodeFault
 table_at at code next = do
-  other ← signed_4 at code (padded next)
-  low ← signed_4 at code other.1
-  high ← signed_4 at code low.1
-  if int_lt high.0 low.0 then Err (faults.BadTarget at)
-      else if nat_lt (length code) (high.1 + 4 * keys_between low.0 high.0) then Err (faults.ShortOperand at)
-      else (do
-        place ← target at code other.0
-        cases ← each_at (table_case at code low.0) [] (keys_between low.0 high.0) high.1
-        Ok (args.Switch place cases.0, cases.1))
+  other ← operand_at at 4 code (padded next)
+  low ← operand_at at 4 code other.1
+  high ← operand_at at 4 code low.1
+  if int_lt (cast_signed w32 high.0) (cast_signed w32 low.0) then Err (faults.BadTarget at)
+    else if nat_lt (length code) (high.1 + 4 * keys_between (cast_signed w32 low.0) (cast_signed w32 high.0)) then Err (faults.ShortOperand at)
+    else (do
+      place ← target at code (cast_signed w32 other.0)
+      cases ← each_at (table_case at code (cast_signed w32 low.0)) [] (keys_between (cast_signed w32 low.0) (cast_signed w32 high.0)) high.1
+      Ok (args.Switch place cases.0, cases.1))
 
 -- the key is above that of the last case
 abbrev pub is_above : ℤ → Option (ℤ × ℕ) → Bool
@@ -88,18 +82,18 @@ is_above key (Some case) = int_lt case.0 key
 -- A case of a lookupswitch is a key and its offset.
 unfoldable pub lookup_case : ℕ → List ℕ → List (ℤ × ℕ) → ℕ → Result ((ℤ × ℕ) × ℕ) CodeFault
 lookup_case at code cases next = do
-  key ← signed_4 at code next
-  case ← case_at at code key.0 key.1
-  if is_above key.0 (slice_get cases (length cases - 1)) then Ok case else Err (faults.BadTarget at)
+  key ← operand_at at 4 code next
+  case ← case_at at code (cast_signed w32 key.0) key.1
+  if is_above (cast_signed w32 key.0) (slice_get cases (length cases - 1)) then Ok case else Err (faults.BadTarget at)
 
 -- The default offset, the count of pairs, which is not negative, and the pairs, whose keys rise.
 unfoldable pub lookup_at : ℕ → List ℕ → ℕ → Result (Arg × ℕ) CodeFault
 lookup_at at code next = do
-  other ← signed_4 at code (padded next)
+  other ← operand_at at 4 code (padded next)
   count ← operand_at at 4 code other.1
   if nat_le (2 ^ 31) count.0 then Err (faults.BadTarget at)
       else if nat_lt (length code) (count.1 + 8 * count.0) then Err (faults.ShortOperand at)
       else (do
-        place ← target at code other.0
+        place ← target at code (cast_signed w32 other.0)
         cases ← each_at (lookup_case at code) [] count.0 count.1
         Ok (args.Switch place cases.0, cases.1))

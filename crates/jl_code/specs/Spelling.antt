@@ -1,5 +1,5 @@
 -- How instructions spell (JVMS 6.5), and the code of a method as the instructions that stand in it (JVMS 4.9.1).
-use Rattle.std.specs.Prelude.{◌≡◌, ℕ, ◌+◌, ◌*◌, ◌^◌, ◌<◌, List, [], ◌∷◌, length, Option, None, Some, Bool, true, false, not, ◌&&◌, ◌||◌, ◌==◌, IsTrue, ℤ, pos, ◌+ℤ◌, int_lt, ◌⊎◌}
+use Rattle.std.specs.Prelude.{◌≡◌, ℕ, ◌+◌, ◌*◌, ◌^◌, ◌<◌, List, [], ◌∷◌, length, map, Option, None, Some, Bool, true, false, not, ◌&&◌, ◌||◌, ◌==◌, IsTrue, ℤ, pos, ◌+ℤ◌, int_lt, ◌⊎◌}
 use Rattle.std.specs.Int.{Width, cast_signed, w8, w16, w32}
 use Rattle.std.specs.List.{list_all}
 use Rattle.byteorder.specs.Endian.{big_bytes}
@@ -17,6 +17,7 @@ use Rattle.jl_code.specs.declared.code.Code.{Code}
 use Rattle.jl_code.specs.Operands.{padded, keys_between, is_above}
 use Rattle.jl_code.specs.References.{has_tag, is_right_index, is_array_of}
 use Rattle.jl_code.specs.Instructions.{is_byte_for, index_arg, is_interface, names_local}
+use Rattle.jl_code.specs.Places.{stands}
 use Rattle.jl_code.specs.Decoding.{leads_right, is_right_handler, kind_of}
 
 -- a number stands in k bytes
@@ -48,8 +49,8 @@ pub record IsInterface (pool : List Entry) (code : List ℕ) (op next : ℕ) (ar
   pub count : ℕ
   pub nothing : ℕ
   pub first : StandsNumber code 2 next index (next + 2)
-  pub second : StandsNumber code 1 (next + 2) count (next + 3)
-  pub third : StandsNumber code 1 (next + 3) nothing end
+  pub second : StandsNumber code 1 (next + 2) count (next + 2 + 1)
+  pub third : StandsNumber code 1 (next + 2 + 1) nothing end
   pub rule : IsTrue (is_interface pool op index count nothing)
   pub meaning : arg ≡ args.Index index
 
@@ -77,28 +78,28 @@ pub record IsTable (code : List ℕ) (at next : ℕ) (arg : Arg) (end : ℕ) : T
   pub high : ℕ
   pub cases : List (ℤ × ℕ)
   pub default : LeadsTo code at 4 w32 (padded next) other (padded next + 4)
-  pub lowest : StandsNumber code 4 (padded next + 4) low (padded next + 8)
-  pub highest : StandsNumber code 4 (padded next + 8) high (padded next + 12)
+  pub lowest : StandsNumber code 4 (padded next + 4) low (padded next + 4 + 4)
+  pub highest : StandsNumber code 4 (padded next + 4 + 4) high (padded next + 4 + 4 + 4)
   pub rises : int_lt (cast_signed w32 high) (cast_signed w32 low) ≡ false
   pub each : length cases ≡ keys_between (cast_signed w32 low) (cast_signed w32 high)
-  pub stand : TableCases code at (cast_signed w32 low) 0 (padded next + 12) cases end
+  pub stand : TableCases code at (cast_signed w32 low) 0 (padded next + 4 + 4 + 4) cases end
   pub meaning : arg ≡ args.Switch other cases
 
 -- the cases of a lookupswitch behind one, each a key above that of the one before, and an offset
 abbrev pub LookupCases : List ℕ → ℕ → Option (ℤ × ℕ) → ℕ → List (ℤ × ℕ) → ℕ → Type 0
 LookupCases code at last next [] end = next ≡ end
 LookupCases code at last next (case ∷ cases) end =
-    (key : ℕ) × StandsNumber code 4 next key (next + 4) × (case.0 ≡ cast_signed w32 key) × LeadsTo code at 4 w32 (next + 4) case.1 (next + 8) × IsTrue (is_above case.0 last)
-    × LookupCases code at (Some case) (next + 8) cases end
+    (key : ℕ) × StandsNumber code 4 next key (next + 4) × (case.0 ≡ cast_signed w32 key) × LeadsTo code at 4 w32 (next + 4) case.1 (next + 4 + 4) × IsTrue (is_above case.0 last)
+    × LookupCases code at (Some case) (next + 4 + 4) cases end
 
 -- behind the padding: the default offset, the count of the cases, and the cases
 pub record IsLookup (code : List ℕ) (at next : ℕ) (arg : Arg) (end : ℕ) : Type 0 where
   pub other : ℕ
   pub cases : List (ℤ × ℕ)
   pub default : LeadsTo code at 4 w32 (padded next) other (padded next + 4)
-  pub count : StandsNumber code 4 (padded next + 4) (length cases) (padded next + 8)
+  pub count : StandsNumber code 4 (padded next + 4) (length cases) (padded next + 4 + 4)
   pub few : length cases < 2 ^ 31
-  pub stand : LookupCases code at None (padded next + 8) cases end
+  pub stand : LookupCases code at None (padded next + 4 + 4) cases end
   pub meaning : arg ≡ args.Switch other cases
 
 -- the operands of a row stand from a place up to another
@@ -141,8 +142,8 @@ pub record IsWide (code : List ℕ) (at : ℕ) (i : Instr) (end : ℕ) : Type 0 
   pub place : i.at ≡ at
   pub widened : i.wide ≡ true
   pub prefix : StandsNumber code 1 at 196 (at + 1)
-  pub opcode : StandsNumber code 1 (at + 1) i.op (at + 2)
-  pub operands : WideArgStands code i.op (at + 2) i.arg end
+  pub opcode : StandsNumber code 1 (at + 1) i.op (at + 1 + 1)
+  pub operands : WideArgStands code i.op (at + 1 + 1) i.arg end
 
 -- an instruction stands at a place, up to another
 abbrev pub InstrStands : List Entry → List ℕ → ℕ → Instr → ℕ → Type 0
@@ -160,6 +161,6 @@ pub record IsCode (pool : List Entry) (desc code : List ℕ) (handlers : List Ha
   pub instrs : List Instr
   pub stand : StandInstrs pool code 0 instrs (length code)
   pub some : 0 < length instrs
-  pub lead : IsTrue (list_all (λ i. leads_right instrs i.arg) instrs)
-  pub handled : IsTrue (list_all (is_right_handler pool code instrs) handlers)
+  pub lead : IsTrue (list_all (λ i. leads_right (stands (map (λ i. i.at) instrs)) i.arg) instrs)
+  pub handled : IsTrue (list_all (is_right_handler pool code (stands (map (λ i. i.at) instrs))) handlers)
   pub kind : c ≡ kind_of pool desc instrs

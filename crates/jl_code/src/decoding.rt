@@ -3,12 +3,15 @@
 ghost use Rattle.std.specs.Prelude.{◌≡◌, ◌<◌, ◌^◌, length, Ok};
 ghost use Rattle.jl_logic.specs.Answers.{Gives};
 ghost use Rattle.jl_code.specs.Told.{told};
-ghost use Rattle.jl_code.specs.Decoding.{code_of, kind_of as kind};
+ghost use Rattle.jl_code.specs.Places.{is_marked};
+ghost use Rattle.jl_code.specs.Decoding as words;
+ghost use Rattle.jl_code.specs.Decoding.{code_of};
 
+use crate::branches::first_astray;
 use crate::code::{Code, Instr};
 use crate::fault::CodeFault;
 use crate::handlers::wrong_handler;
-use crate::places::first_astray;
+use crate::places::marks_of;
 use crate::references::described;
 use crate::stubs::first_stub;
 use crate::types::has_float;
@@ -24,7 +27,7 @@ fn kind_of(
     desc: &[u8],
     instructions: Items<Instr>,
 ) -> Result<Code, CodeFault>
-    ensures { Gives told (λ x. x) result (Ok (kind pool.now desc.now instructions)) }
+    ensures { Gives told (λ x. x) result (Ok (words.kind_of pool.now desc.now instructions)) }
 {
     let method = described(alloc, desc)?;
     if has_float(&method) {
@@ -34,6 +37,34 @@ fn kind_of(
         Some(op) => Ok(Code::Stub(Some(op))),
         None => Ok(Code::Instructions(instructions)),
     }
+}
+
+/// What the instructions of a walk are, by the marks of the places where instructions stand.
+fn judged(
+    alloc: Global,
+    pool: &Pool,
+    desc: &[u8],
+    code: &[u8],
+    handlers: &[Handler],
+    marks: &[bool],
+    walked: Walked,
+) -> Result<Code, CodeFault>
+    ensures { Gives told (λ x. x) result (words.judged pool.now desc.now code.now handlers.now (is_marked marks.now) walked) }
+{
+    let Walked {
+        instructions,
+        fault,
+    } = walked;
+    if let Some(at) = first_astray(marks, instructions.as_slice()) {
+        return Err(CodeFault::BadTarget(at));
+    }
+    if let Some(fault) = fault {
+        return Err(fault);
+    }
+    if let Some(place) = wrong_handler(pool, code, marks, handlers) {
+        return Err(CodeFault::BadRange(place));
+    }
+    kind_of(alloc, pool, desc, instructions)
 }
 
 /// The instructions of a method's code, or that it is a stub (JVMS 4.7.3, 4.9.1, 6.5).
@@ -57,19 +88,7 @@ pub fn decode(
     if code.is_empty() {
         return Err(CodeFault::Empty);
     }
-    let Walked {
-        instructions,
-        fault,
-    } = walk(alloc, pool, code)?;
-    let all = instructions.as_slice();
-    if let Some(at) = first_astray(all) {
-        return Err(CodeFault::BadTarget(at));
-    }
-    if let Some(fault) = fault {
-        return Err(fault);
-    }
-    if let Some(place) = wrong_handler(pool, code, all, handlers) {
-        return Err(CodeFault::BadRange(place));
-    }
-    kind_of(alloc, pool, desc, instructions)
+    let walked = walk(alloc, pool, code)?;
+    let marks = marks_of(alloc, code)?;
+    judged(alloc, pool, desc, code, handlers, &marks, walked)
 }

@@ -1,6 +1,7 @@
 //! The instructions of code (JVMS 4.7.3, 6.5).
 #![tactic(auto)]
 
+mod branches;
 mod code;
 mod decoding;
 mod fault;

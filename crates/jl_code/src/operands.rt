@@ -3,14 +3,14 @@
 //! Each function gets the place of the instruction, which its faults have.
 
 ghost use Rattle.std.specs.Prelude.{◌≡◌, ◌≤◌, ◌<◌, ◌+◌, ◌^◌, length, IfOk};
-ghost use Rattle.jl_code.specs.Operands.{operand_at, signed_4, target as target_of};
+ghost use Rattle.jl_code.specs.Operands.{operand_at, target as target_of};
 
 use crate::fault::CodeFault;
 use byteorder::{BigEndian, ByteOrder};
 
 /// The number in a byte, and the place after it.
 pub fn byte_at(at: u32, code: &[u8], next: usize) -> Result<(u8, usize), CodeFault>
-    requires { next ≤ length code.now + 3 }
+    requires { next ≤ length code.now + 7 }
     ensures exact { result ≡ operand_at at 1 code.now next }
     ensures within { IfOk result (λ x. (x.1 ≡ next + 1) × (x.1 ≤ length code.now)) }
 {
@@ -22,7 +22,7 @@ pub fn byte_at(at: u32, code: &[u8], next: usize) -> Result<(u8, usize), CodeFau
 
 /// The number in two bytes, and the place after them.
 pub fn u16_at(at: u32, code: &[u8], next: usize) -> Result<(u16, usize), CodeFault>
-    requires { next ≤ length code.now + 3 }
+    requires { next ≤ length code.now + 7 }
     ensures exact { result ≡ operand_at at 2 code.now next }
     ensures within { IfOk result (λ x. (x.1 ≡ next + 2) × (x.1 ≤ length code.now)) }
 {
@@ -34,7 +34,7 @@ pub fn u16_at(at: u32, code: &[u8], next: usize) -> Result<(u16, usize), CodeFau
 
 /// The number in four bytes, and the place after them.
 pub fn u32_at(at: u32, code: &[u8], next: usize) -> Result<(u32, usize), CodeFault>
-    requires { next ≤ length code.now + 3 }
+    requires { next ≤ length code.now + 7 }
     ensures exact { result ≡ operand_at at 4 code.now next }
     ensures within { IfOk result (λ x. (x.1 ≡ next + 4) × (x.1 ≤ length code.now)) }
 {
@@ -42,16 +42,6 @@ pub fn u32_at(at: u32, code: &[u8], next: usize) -> Result<(u32, usize), CodeFau
         return Err(CodeFault::ShortOperand(at));
     }
     Ok((BigEndian::read_u32(&code[next..]), next + 4))
-}
-
-/// The signed number in four bytes, and the place after them.
-pub fn i32_at(at: u32, code: &[u8], next: usize) -> Result<(i32, usize), CodeFault>
-    requires { next ≤ length code.now + 3 }
-    ensures exact { result ≡ signed_4 at code.now next }
-    ensures within { IfOk result (λ x. (x.1 ≡ next + 4) × (x.1 ≤ length code.now)) }
-{
-    let (n, next) = u32_at(at, code, next)?;
-    Ok((n.cast_signed(), next))
 }
 
 /// The place to which a branch leads, which is inside the code.

@@ -8,12 +8,12 @@ ghost use Rattle.jl_code.specs.Operands as words;
 
 use crate::code::Arg;
 use crate::fault::CodeFault;
-use crate::operands::{i32_at, target, u32_at};
+use crate::operands::{target, u32_at};
 use jl_prim::Items;
 use std::alloc::Global;
 
 /// The first place from one on that is divisible by 4.
-fn padded(next: usize) -> usize
+pub fn padded(next: usize) -> usize
     requires { next < 2 ^ 33 }
     ensures exact { result ≡ words.padded next }
     ensures within { result ≤ next + 3 }
@@ -30,8 +30,8 @@ fn case_at(at: u32, code: &[u8], key: i32, next: usize) -> Result<((i32, u32), u
     ensures exact { result ≡ words.case_at at code.now key next }
     ensures within { IfOk result (λ x. (x.1 ≡ next + 4) × (x.1 ≤ length code.now)) }
 {
-    let (offset, next) = i32_at(at, code, next)?;
-    let place = target(at, code, offset)?;
+    let (offset, next) = u32_at(at, code, next)?;
+    let place = target(at, code, offset.cast_signed())?;
     Ok(((key, place), next))
 }
 
@@ -76,9 +76,11 @@ pub fn table_at(alloc: Global, at: u32, code: &[u8], next: usize) -> Result<(Arg
     ensures exact { Gives told (λ x. x) result (words.table_at at code.now next) }
     ensures within { IfOk result (λ x. (next ≤ x.1) × (x.1 ≤ length code.now)) }
 {
-    let (offset, next) = i32_at(at, code, padded(next))?;
-    let (low, next) = i32_at(at, code, next)?;
-    let (high, next) = i32_at(at, code, next)?;
+    let (offset, next) = u32_at(at, code, padded(next))?;
+    let (low, next) = u32_at(at, code, next)?;
+    let (high, next) = u32_at(at, code, next)?;
+    let low = low.cast_signed();
+    let high = high.cast_signed();
     if high < low {
         return Err(CodeFault::BadTarget(at));
     }
@@ -86,7 +88,7 @@ pub fn table_at(alloc: Global, at: u32, code: &[u8], next: usize) -> Result<(Arg
     if code.len() < next + 4 * count {
         return Err(CodeFault::ShortOperand(at));
     }
-    let other = target(at, code, offset)?;
+    let other = target(at, code, offset.cast_signed())?;
     let (cases, next) = table_cases(alloc, at, code, low, count, next)?;
     Ok((Arg::Switch { other, cases }, next))
 }
@@ -114,7 +116,8 @@ fn lookup_case(
     ensures exact { result ≡ words.lookup_case at code.now cases.now next }
     ensures within { IfOk result (λ x. (x.1 ≡ next + 8) × (x.1 ≤ length code.now)) }
 {
-    let (key, next) = i32_at(at, code, next)?;
+    let (key, next) = u32_at(at, code, next)?;
+    let key = key.cast_signed();
     let (case, next) = case_at(at, code, key, next)?;
     if is_above(key, cases) {
         Ok((case, next))
@@ -159,7 +162,7 @@ pub fn lookup_at(
     ensures exact { Gives told (λ x. x) result (words.lookup_at at code.now next) }
     ensures within { IfOk result (λ x. (next ≤ x.1) × (x.1 ≤ length code.now)) }
 {
-    let (offset, next) = i32_at(at, code, padded(next))?;
+    let (offset, next) = u32_at(at, code, padded(next))?;
     let (count, next) = u32_at(at, code, next)?;
     if count >= 0x8000_0000 {
         return Err(CodeFault::BadTarget(at));
@@ -168,7 +171,7 @@ pub fn lookup_at(
     if code.len() < next + 8 * count {
         return Err(CodeFault::ShortOperand(at));
     }
-    let other = target(at, code, offset)?;
+    let other = target(at, code, offset.cast_signed())?;
     let (cases, next) = lookup_cases(alloc, at, code, count, next)?;
     Ok((Arg::Switch { other, cases }, next))
 }
