@@ -2,5 +2,6 @@ pub mod Marks
 pub mod Offsets
 pub mod Chains
 pub mod Rows
+pub mod Switching
 pub mod Tellings
 pub mod Walks
