@@ -1,5 +1,6 @@
 pub mod Marks
 pub mod Offsets
+pub mod ArgLaws
 pub mod Chains
 pub mod Rows
 pub mod Switching
