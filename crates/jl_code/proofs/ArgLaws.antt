@@ -101,18 +101,18 @@ arg_again pool at op kinds.Wide code next arg end s = rw (s.0, s.1) refl
 
 -- ---- lengths
 
-whole : (at : ℕ) (code : List ℕ) (next size end : ℕ) → end ≡ next + size → end ≤ length code → whole_to at code (next + size) ≡ Ok end
+pub whole : (at : ℕ) (code : List ℕ) (next size end : ℕ) → end ≡ next + size → end ≤ length code → whole_to at code (next + size) ≡ Ok end
 whole at code next size end ends le =
     let fits : ltb (length code) (next + size) ≡ false = le-ltb _ _ (omega (arith, ends)) in
     rw (fits, ends) refl
 
-one_length : (at : ℕ) (code : List ℕ) (k : ℕ) (right : ℕ → Bool) (made : ℕ → Arg) (next : ℕ) (arg : Arg) (end : ℕ) → IsOne code k right made next arg end → whole_to at code (next + k) ≡ Ok end
+pub one_length : (at : ℕ) (code : List ℕ) (k : ℕ) (right : ℕ → Bool) (made : ℕ → Arg) (next : ℕ) (arg : Arg) (end : ℕ) → IsOne code k right made next arg end → whole_to at code (next + k) ≡ Ok end
 one_length at code k right made next arg end s = whole at code next k end (ends code k next s.n end s.number) s.number.stands.within
 
-two_length : (at : ℕ) (code : List ℕ) (k j : ℕ) (right : ℕ → ℕ → Bool) (made : ℕ → ℕ → Arg) (next : ℕ) (arg : Arg) (end size : ℕ) → size ≡ k + j → IsTwo code k j right made next arg end → whole_to at code (next + size) ≡ Ok end
+pub two_length : (at : ℕ) (code : List ℕ) (k j : ℕ) (right : ℕ → ℕ → Bool) (made : ℕ → ℕ → Arg) (next : ℕ) (arg : Arg) (end size : ℕ) → size ≡ k + j → IsTwo code k j right made next arg end → whole_to at code (next + size) ≡ Ok end
 two_length at code k j right made next arg end size same s = let e = ends code j (next + k) s.m end s.second in whole at code next size end (omega arith) s.second.stands.within
 
-table_length : (at : ℕ) (code : List ℕ) (next : ℕ) (arg : Arg) (end : ℕ) → IsTable code at next arg end → table_end at code next ≡ Ok end
+pub table_length : (at : ℕ) (code : List ℕ) (next : ℕ) (arg : Arg) (end : ℕ) → IsTable code at next arg end → table_end at code next ≡ Ok end
 unfolding table_end
 table_length at code next arg end s =
     let low = cast_signed w32 s.low in
@@ -121,7 +121,7 @@ table_length at code next arg end s =
     let wanted = subst (λ (n : ℕ). whole_to at code (padded next + 4 + 4 + 4 + 4 * n) ≡ Ok end) s.each size in
     rw (again at 4 code (padded next + 4) s.low (padded next + 4 + 4) s.lowest, again at 4 code (padded next + 4 + 4) s.high (padded next + 4 + 4 + 4) s.highest, s.rises) wanted
 
-lookup_length : (at : ℕ) (code : List ℕ) (next : ℕ) (arg : Arg) (end : ℕ) → IsLookup code at next arg end → lookup_end at code next ≡ Ok end
+pub lookup_length : (at : ℕ) (code : List ℕ) (next : ℕ) (arg : Arg) (end : ℕ) → IsLookup code at next arg end → lookup_end at code next ≡ Ok end
 unfolding lookup_end
 lookup_length at code next arg end s =
     let at_end = lookup_ends at code s.cases _ (padded next + 4 + 4) end s.count.stands.within s.stand in

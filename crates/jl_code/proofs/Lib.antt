@@ -1,3 +1,5 @@
+pub mod CodeLaws
+pub mod InstrLaws
 pub mod Marks
 pub mod Offsets
 pub mod ArgLaws

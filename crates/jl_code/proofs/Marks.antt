@@ -58,7 +58,7 @@ follows_more code marks at next lt room on read f = more f.left f.enough f.same 
         same = λ p. marked_step marks at p (places_from code n next) (stands (places code) p) room (rw step at (same p));
       }
 
-nothing_left : (n : ℕ) (code : List ℕ) (at : ℕ) → length code ≤ at → places_from code n at ≡ []
+pub nothing_left : (n : ℕ) (code : List ℕ) (at : ℕ) → length code ≤ at → places_from code n at ≡ []
 unfolding places_from
 nothing_left zero code at le = refl
 nothing_left (suc n) code at le = rw (le-ltb at (length code) le) refl

@@ -33,14 +33,14 @@ walk_stops pool code before at f total lt few read so_far =
     let step : walk_on pool code before (left code before) at ≡ up_to before (Some f) = rw (k, lt-ltb at (length code) lt, read) refl in
     sym so_far ∙ step
 
-ends : (n : ℕ) (pool : List Entry) (code : List ℕ) (before : List Instr) (at : ℕ) → length code ≤ at → walk_on pool code before n at ≡ up_to before None
+pub walk_end : (n : ℕ) (pool : List Entry) (code : List ℕ) (before : List Instr) (at : ℕ) → length code ≤ at → walk_on pool code before n at ≡ up_to before None
 unfolding walk_on
-ends zero pool code before at le = refl
-ends (suc n) pool code before at le = rw (le-ltb at (length code) le) refl
+walk_end zero pool code before at le = refl
+walk_end (suc n) pool code before at le = rw (le-ltb at (length code) le) refl
 
 pub walk_ends : (pool : List Entry) (code : List ℕ) (before : List Instr) (at : ℕ) (total : Walked)
     → length code ≤ at → walk_on pool code before (left code before) at ≡ total → total ≡ up_to before None
-walk_ends pool code before at total le so_far = sym so_far ∙ ends (left code before) pool code before at le
+walk_ends pool code before at total le so_far = sym so_far ∙ walk_end (left code before) pool code before at le
 
 -- a walk that ends at a fault is the whole walk
 pub walk_gives : (pool : List Entry) (code : List ℕ) (before : List Instr) (at : ℕ) (f : CodeFault) (result : Result Walked CodeFault) (total : Walked)
