@@ -87,3 +87,123 @@ places_again (suc n) pool code (i ∷ later) at enough stand =
     let lt : at < length code = omega (arith, f.0, f.1) in
     let rest = places_again n pool code later stand.0 (omega (arith, f.0, enough)) stand.2 in
     rw (lt-ltb at (length code) lt, instr_length pool code at i stand.0 stand.1, rest, place_of pool code at i stand.0 stand.1) refl
+
+-- ---- the whole code
+
+unless_ok : (o : Option CodeFault) (r : Result Code CodeFault) (c : Code) → unless o r ≡ Ok c → (o ≡ None) × (r ≡ Ok c)
+unless_ok (Some f) r c e = absurd cc
+unless_ok None r c e = (refl, e)
+
+map_none : {A : Type 0} (f : A → CodeFault) (o : Option A) → option_map f o ≡ None → o ≡ None
+map_none f (Some x) e = absurd cc
+map_none f None e = refl
+
+at_none : (o : Option Instr) → option_map (λ i. i.at) o ≡ None → o ≡ None
+at_none (Some i) e = absurd cc
+at_none None e = refl
+
+first_none : (test : Instr → Bool) (is : List Instr) → first_where (λ i. not (test i)) is ≡ None → IsTrue (list_all test is)
+unfolding first_where
+first_none test [] e = refl
+first_none test (i ∷ is) e0 =
+    cond_both (not (test i)) (Some i) (first_where (λ i. not (test i)) is) (λ o. o ≡ None → IsTrue (list_all test (i ∷ is)))
+    (λ n e. absurd cc) (λ t e. and_from (test i) (list_all test is) (sym (not_not (test i)) ∙ ap not t) (first_none test is e)) e0 where
+  not_not : (b : Bool) → not (not b) ≡ b
+  not_not true = refl
+  not_not false = refl
+
+first_all : (test : Instr → Bool) (is : List Instr) → IsTrue (list_all test is) → first_where (λ i. not (test i)) is ≡ None
+unfolding first_where
+first_all test [] all = refl
+first_all test (i ∷ is) all = let p = and_parts (test i) (list_all test is) all in rw (p.0, first_all test is p.1) refl
+
+all_long : (right : Handler → Bool) (hs : List Handler) → length hs ≤ prefix_len (λ h. not (not (right h))) hs → IsTrue (list_all right hs)
+all_long right [] le = refl
+all_long right (h ∷ hs) le0 =
+    cond_both (not (not (right h))) (1 + prefix_len (λ h. not (not (right h))) hs) 0 (λ n. length (h ∷ hs) ≤ n → IsTrue (list_all right (h ∷ hs)))
+    (λ r le. and_from (right h) (list_all right hs) (sym (not_not (right h)) ∙ r) (all_long right hs (omega arith))) (λ r le. absurd (omega arith)) le0 where
+  not_not : (b : Bool) → not (not b) ≡ b
+  not_not true = refl
+  not_not false = refl
+
+long_all : (right : Handler → Bool) (hs : List Handler) → IsTrue (list_all right hs) → length hs ≤ prefix_len (λ h. not (not (right h))) hs
+long_all right [] all = omega arith
+long_all right (h ∷ hs) all = let p = and_parts (right h) (list_all right hs) all in let rest = long_all right hs p.1 in rw p.0 (omega arith)
+
+no_place : (i n : ℕ) → cond (ltb i n) (Some i) None ≡ None → n ≤ i
+no_place i n = cond_both (ltb i n) (Some i) None (λ o. o ≡ None → n ≤ i) (λ lt e. absurd cc) (λ ge e. ltb-false i n ge)
+
+position_none : (right : Handler → Bool) (hs : List Handler) → position (λ h. not (right h)) hs ≡ None → IsTrue (list_all right hs)
+position_none right hs e = all_long right hs (no_place _ (length hs) e)
+
+position_all : (right : Handler → Bool) (hs : List Handler) → IsTrue (list_all right hs) → position (λ h. not (right h)) hs ≡ None
+position_all right hs all =
+    let long = le-ltb (prefix_len (λ h. not (not (right h))) hs) (length hs) (long_all right hs all) in
+    rw long refl
+
+not_empty : (code : List ℕ) → empty code ≡ None → 0 < length code
+not_empty [] e = absurd cc
+not_empty (b ∷ bs) e = omega arith
+
+is_not_empty : (code : List ℕ) → 0 < length code → empty code ≡ None
+is_not_empty [] lt = absurd (omega arith)
+is_not_empty (b ∷ bs) lt = refl
+
+some_instr : (pool : List Entry) (code : List ℕ) (instrs : List Instr) → StandInstrs pool code 0 instrs (length code) → 0 < length code → 0 < length instrs
+some_instr pool code [] stand lt = absurd (omega (arith, stand, lt))
+some_instr pool code (i ∷ is) stand lt = omega arith
+
+some_byte : (pool : List Entry) (code : List ℕ) (instrs : List Instr) → StandInstrs pool code 0 instrs (length code) → 0 < length instrs → 0 < length code
+some_byte pool code [] stand lt = absurd (omega arith)
+some_byte pool code (i ∷ is) stand lt = let f = instr_forth pool code 0 i stand.0 stand.1 in omega (arith, f.0, f.1)
+
+abbrev starts : List Instr → List ℕ
+starts instrs = map (λ i. i.at) instrs
+
+abbrev lead : (ℕ → Bool) → List Instr → Bool
+lead is_start instrs = list_all (λ i. leads_right is_start i.arg) instrs
+
+pub code_found : (pool : List Entry) (desc code : List ℕ) (handlers : List Handler) (c : Code) → IsBytes code → code_of pool desc code handlers ≡ Ok c → IsCode pool desc code handlers c
+unfolding code_of
+code_found pool desc code handlers c fits e =
+    let is_start = stands (places code) in
+    let w = walk pool code in
+    let kind = Ok (kind_of pool desc w.instructions) in
+    let after_walk = unless (option_map faults.BadRange (wrong_handler pool code is_start handlers)) kind in
+    let a = unless_ok (empty code) (judged pool desc code handlers is_start w) c e in
+    let b = unless_ok (option_map faults.BadTarget (first_astray is_start w.instructions)) (unless w.fault after_walk) c a.1 in
+    let d = unless_ok w.fault after_walk c b.1 in
+    let g = unless_ok (option_map faults.BadRange (wrong_handler pool code is_start handlers)) kind c d.1 in
+    let walked : w ≡ up_to w.instructions None = ap (λ (f : Option CodeFault). up_to w.instructions f) d.0 in
+    let s = walk_found (length code) pool code [] 0 w.instructions fits (omega arith) (omega arith) walked in
+    let p : places code ≡ starts s.later = places_again (length code) pool code s.later 0 (omega arith) s.stand in
+    let astray = at_none _ (map_none faults.BadTarget _ b.0) in
+    let leads : IsTrue (lead is_start w.instructions) = first_none (λ i. leads_right is_start i.arg) w.instructions astray in
+    let leads_later : IsTrue (lead is_start s.later) = subst (λ (is : List Instr). IsTrue (lead is_start is)) s.parts leads in
+    let right : IsTrue (list_all (is_right_handler pool code is_start) handlers) = position_none (is_right_handler pool code is_start) handlers (map_none faults.BadRange _ g.0) in
+    record {
+      instrs = s.later;
+      stand = s.stand;
+      some = some_instr pool code s.later s.stand (not_empty code a.0);
+      lead = subst (λ (ps : List ℕ). IsTrue (lead (stands ps) s.later)) p leads_later;
+      handled = subst (λ (ps : List ℕ). IsTrue (list_all (is_right_handler pool code (stands ps)) handlers)) p right;
+      kind = sym (ok_is (kind_of pool desc w.instructions) c g.1) ∙ ap (λ (is : List Instr). kind_of pool desc is) s.parts;
+    }
+
+judged_again : (pool : List Entry) (desc code : List ℕ) (handlers : List Handler) (is_start : ℕ → Bool) (instrs : List Instr) → first_where (λ i. not (leads_right is_start i.arg)) instrs ≡ None
+    → wrong_handler pool code is_start handlers ≡ None → judged pool desc code handlers is_start (up_to instrs None) ≡ Ok (kind_of pool desc instrs)
+judged_again pool desc code handlers is_start instrs leads right = rw (leads, right) refl
+
+pub code_only : (pool : List Entry) (desc code : List ℕ) (handlers : List Handler) (c : Code) → IsCode pool desc code handlers c → code_of pool desc code handlers ≡ Ok c
+unfolding code_of
+code_only pool desc code handlers c s =
+    let walked : walk pool code ≡ up_to s.instrs None = walk_again (length code) pool code [] s.instrs 0 (omega arith) s.stand in
+    let p : places code ≡ starts s.instrs = places_again (length code) pool code s.instrs 0 (omega arith) s.stand in
+    let leads = first_all (λ i. leads_right (stands (starts s.instrs)) i.arg) s.instrs s.lead in
+    let right = position_all (is_right_handler pool code (stands (starts s.instrs))) handlers s.handled in
+    let full = is_not_empty code (some_byte pool code s.instrs s.stand s.some) in
+    let read = judged_again pool desc code handlers (stands (starts s.instrs)) s.instrs leads right in
+    let there : judged pool desc code handlers (stands (places code)) (walk pool code) ≡ Ok (kind_of pool desc s.instrs) =
+    subst (λ (ps : List ℕ). judged pool desc code handlers (stands ps) (walk pool code) ≡ Ok (kind_of pool desc s.instrs)) (sym p)
+    (subst (λ (w : Walked). judged pool desc code handlers (stands (starts s.instrs)) w ≡ Ok (kind_of pool desc s.instrs)) (sym walked) read) in
+    rw full (there ∙ ap (λ (k : Code). Ok k) (sym s.kind))
