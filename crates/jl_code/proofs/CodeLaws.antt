@@ -1,10 +1,11 @@
 -- Whole code: what is read is spelled so, and what is spelled so is read.
 use Rattle.std.proofs.Common.{◌≡◌, ℕ, zero, suc, ◌+◌, ◌≤◌, ◌<◌, ◌⊎◌, inl, inr, Bool, true, false, not, cond, ltb, List, [], ◌∷◌, ◌++◌, length, map, append_assoc, Option, None, Some, Result, Ok, Err, refl, sym, ap, subst, ◌∙◌, arith}
-use Rattle.std.specs.Prelude.{IsTrue, position, IfOk}
+use Rattle.std.specs.Prelude.{IsTrue, position, IfOk, ◌↔◌}
 use Rattle.std.specs.Option.{option_map}
 use Rattle.std.specs.List.{list_all, prefix_len}
 use Rattle.std.proofs.lemmas.Bool.{cond_both, ltb-false, ltb-true, lt-ltb, le-ltb, and_from, and_parts, cases_lt, not-true}
 use Rattle.std.proofs.lemmas.List.{append-nil}
+use Rattle.jl_logic.specs.Answers.{Gives}
 use Rattle.jl_reading.specs.Reading.{IsBytes}
 use Rattle.jl_reading.proofs.Steps.{ok_is}
 use Rattle.jl_prim.specs.declared.declaration.Handler.{Handler}
@@ -14,6 +15,7 @@ use Rattle.jl_code.specs.declared.fault.CodeFault.TheVariants as faults
 use Rattle.jl_code.specs.declared.code.Instr.{Instr}
 use Rattle.jl_code.specs.declared.code.Code.{Code}
 use Rattle.jl_code.specs.declared.walking.Walked.{Walked}
+use Rattle.jl_code.specs.Told.{told}
 use Rattle.jl_code.specs.Instructions.{instr_at}
 use Rattle.jl_code.specs.Places.{next_place, places_from, places, stands}
 use Rattle.jl_code.specs.Walking.{up_to, walk_on, walk}
@@ -207,3 +209,26 @@ code_only pool desc code handlers c s =
     subst (λ (ps : List ℕ). judged pool desc code handlers (stands ps) (walk pool code) ≡ Ok (kind_of pool desc s.instrs)) (sym p)
     (subst (λ (w : Walked). judged pool desc code handlers (stands (starts s.instrs)) w ≡ Ok (kind_of pool desc s.instrs)) (sym walked) read) in
     rw full (there ∙ ap (λ (k : Code). Ok k) (sym s.kind))
+
+-- ---- what decode answers
+
+pub found_in : (pool : List Entry) (desc code : List ℕ) (handlers : List Handler) (r : Result Code CodeFault) → IsBytes code → Gives told (λ (c : Code). c) r (code_of pool desc code handlers)
+    → IfOk r (λ c. IsCode pool desc code handlers c)
+found_in pool desc code handlers (Ok c) fits g = code_found pool desc code handlers c fits g
+found_in pool desc code handlers (Err e) fits g = tt
+
+pub only_in : (pool : List Entry) (desc code : List ℕ) (handlers : List Handler) (r : Result Code CodeFault) → Gives told (λ (c : Code). c) r (code_of pool desc code handlers)
+    → (c : Code) → IsCode pool desc code handlers c → Gives told (λ (c : Code). c) r (Ok c)
+only_in pool desc code handlers r g c is = subst (λ (x : Result Code CodeFault). Gives told (λ (c : Code). c) r x) (code_only pool desc code handlers c is) g
+
+not_both : (r : Result Code CodeFault) (f : CodeFault) (c : Code) → r ≡ Err f → r ≡ Ok c → ⊥
+not_both (Ok x) f c e g = absurd cc
+not_both (Err x) f c e g = absurd cc
+
+fault_or : (pool : List Entry) (desc code : List ℕ) (handlers : List Handler) (r : Result Code CodeFault) → IsBytes code → code_of pool desc code handlers ≡ r → ((c : Code) → IsCode pool desc code handlers c → ⊥)
+    → (f : CodeFault) × (code_of pool desc code handlers ≡ Err f)
+fault_or pool desc code handlers (Ok c) fits e none = absurd (none c (code_found pool desc code handlers c fits e))
+fault_or pool desc code handlers (Err f) fits e none = (f, e)
+
+pub fault_or_code : (pool : List Entry) (desc code : List ℕ) (handlers : List Handler) → IsBytes code → ((f : CodeFault) × (code_of pool desc code handlers ≡ Err f)) ↔ ((c : Code) → IsCode pool desc code handlers c → ⊥)
+fault_or_code pool desc code handlers fits = ((λ f c is. not_both (code_of pool desc code handlers) f.0 c f.1 (code_only pool desc code handlers c is)), fault_or pool desc code handlers (code_of pool desc code handlers) fits refl)

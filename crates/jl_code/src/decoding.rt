@@ -1,11 +1,14 @@
 //! Decoding a method's code.
 
-ghost use Rattle.std.specs.Prelude.{◌≡◌, ◌<◌, ◌^◌, length, Ok};
+ghost use Rattle.std.specs.Prelude.{◌≡◌, ◌<◌, ◌^◌, ◌↔◌, length, Ok, Err, IfOk};
 ghost use Rattle.jl_logic.specs.Answers.{Gives};
 ghost use Rattle.jl_code.specs.Told.{told};
 ghost use Rattle.jl_code.specs.Places.{is_marked};
 ghost use Rattle.jl_code.specs.Decoding as words;
 ghost use Rattle.jl_code.specs.Decoding.{code_of};
+ghost use Rattle.jl_code.specs.Spelling.{IsCode};
+ghost use Rattle.jl_code.specs.declared.code.Code.{Code};
+ghost use Rattle.jl_code.specs.declared.fault.CodeFault.{CodeFault};
 
 use crate::branches::first_astray;
 use crate::code::{Code, Instr};
@@ -74,7 +77,6 @@ fn judged(
 /// right in itself. `BadRange` comes behind these, for the first handler that is not right. A method is a stub
 /// where its own descriptor has a parameter or result `F` or `D`, or else by its first instruction that makes
 /// it one.
-#[tactic(auto, unfolding(crate::specs::Decoding::code_of))]
 pub fn decode(
     alloc: Global,
     pool: &Pool,
@@ -83,7 +85,28 @@ pub fn decode(
     handlers: &[Handler],
 ) -> Result<Code, CodeFault>
     requires { length code.now < 2 ^ 32 }
+    // By reading from left to right.
     ensures exact { Gives told (λ x. x) result (code_of pool.now desc.now code.now handlers.now) }
+    // What is read is spelled so.
+    ensures found { IfOk result (λ c. IsCode pool.now desc.now code.now handlers.now c) }
+    // What is spelled so is read, unless memory runs out.
+    ensures only { (c : Code) → IsCode pool.now desc.now code.now handlers.now c → Gives told (λ x. x) result (Ok c) }
+    // There is a fault exactly where the bytes are no code.
+    ensures one { ((f : CodeFault) × (code_of pool.now desc.now code.now handlers.now ≡ Err f)) ↔ ((c : Code) → IsCode pool.now desc.now code.now handlers.now c → ⊥) }
+{
+    decoded(alloc, pool, desc, code, handlers)
+}
+
+#[tactic(auto, unfolding(crate::specs::Decoding::code_of))]
+fn decoded(
+    alloc: Global,
+    pool: &Pool,
+    desc: &[u8],
+    code: &[u8],
+    handlers: &[Handler],
+) -> Result<Code, CodeFault>
+    requires { length code.now < 2 ^ 32 }
+    ensures { Gives told (λ x. x) result (code_of pool.now desc.now code.now handlers.now) }
 {
     if code.is_empty() {
         return Err(CodeFault::Empty);
