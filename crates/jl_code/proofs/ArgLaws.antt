@@ -1,10 +1,9 @@
 -- Operands: what is read is spelled so, what is spelled so is read, and both have the length of their row.
-use Rattle.std.proofs.Common.{◌≡◌, ℕ, zero, suc, ◌+◌, ◌*◌, ◌≤◌, ◌<◌, ◌^◌, Bool, true, false, cond, ltb, leb, List, length, Result, Ok, Err, refl, sym, ap, subst, ◌∙◌, arith}
-use Rattle.std.specs.Prelude.{IsTrue}
+use Rattle.std.proofs.Common.{◌≡◌, ℕ, ◌+◌, ◌*◌, ◌≤◌, ◌^◌, Bool, true, false, ltb, leb, List, length, Result, Ok, refl, sym, ap, subst, arith}
 use Rattle.std.specs.Int.{cast_signed, w8, w16, w32}
 use Rattle.std.proofs.lemmas.Bool.{le-ltb, lt-leb}
 use Rattle.jl_reading.specs.Reading.{◌>>=◌, IsBytes}
-use Rattle.jl_reading.proofs.Steps.{bind_ok, ok_is}
+use Rattle.jl_reading.proofs.Steps.{ok_is}
 use Rattle.jl_pool.specs.declared.entry.Entry.{Entry}
 use Rattle.jl_pool.specs.Pool.{tag_of}
 use Rattle.jl_optable.specs.declared.form.Operands.{Operands}
@@ -16,11 +15,11 @@ use Rattle.jl_code.specs.declared.code.Arg.TheVariants as args
 use Rattle.jl_code.specs.Operands.{operand_at, inc_at, padded}
 use Rattle.jl_code.specs.References.{has_tag, is_right_index, is_array_of}
 use Rattle.jl_code.specs.Instructions.{is_byte_for, byte_at, short_at, local_at, index_arg, index_at, is_interface, interface_at, dynamic_at, multi_at, arg_at}
-use Rattle.jl_code.specs.Spelling.{StandsNumber, IsOne, IsTwo, IsInterface, IsBranch, IsTable, IsLookup, ArgStands}
-use Rattle.jl_code.specs.Places.{whole_to, table_end, lookup_end, wide_end, size_of, end_at}
-use Rattle.jl_code.proofs.Chains.{Begun, begun, again, ends, judged, passed, one_stands, one_again, one_forth, two_stand, two_again, two_forth}
-use Rattle.jl_code.proofs.Offsets.{branch_stands, branch_again, branch_forth}
-use Rattle.jl_code.proofs.Switching.{table_stands, table_again, table_forth, table_ends, lookup_stands, lookup_again, lookup_forth, lookup_ends}
+use Rattle.jl_code.specs.Spelling.{StandsNumber, IsOne, IsTwo, IsInterface, IsTable, IsLookup, ArgStands}
+use Rattle.jl_code.specs.Places.{whole_to, table_end, lookup_end}
+use Rattle.jl_code.proofs.Chains.{begun, again, ends, judged, passed, one_stands, one_again, two_stand, two_again}
+use Rattle.jl_code.proofs.Offsets.{branch_stands, branch_again}
+use Rattle.jl_code.proofs.Switching.{table_stands, table_again, table_ends, lookup_stands, lookup_again, lookup_ends}
 
 -- ---- invokeinterface
 

@@ -1,9 +1,9 @@
 -- Whole code: what is read is spelled so, and what is spelled so is read.
-use Rattle.std.proofs.Common.{◌≡◌, ℕ, zero, suc, ◌+◌, ◌≤◌, ◌<◌, ◌⊎◌, inl, inr, Bool, true, false, not, cond, ltb, List, [], ◌∷◌, ◌++◌, length, map, append_assoc, Option, None, Some, Result, Ok, Err, refl, sym, ap, subst, ◌∙◌, arith}
+use Rattle.std.proofs.Common.{◌≡◌, ℕ, zero, suc, ◌+◌, ◌≤◌, ◌<◌, inl, inr, Bool, true, false, not, cond, ltb, List, [], ◌∷◌, ◌++◌, length, map, append_assoc, Option, None, Some, Result, Ok, Err, refl, sym, ap, subst, ◌∙◌, arith}
 use Rattle.std.specs.Prelude.{IsTrue, position, IfOk, ◌↔◌}
 use Rattle.std.specs.Option.{option_map}
 use Rattle.std.specs.List.{list_all, prefix_len}
-use Rattle.std.proofs.lemmas.Bool.{cond_both, ltb-false, ltb-true, lt-ltb, le-ltb, and_from, and_parts, cases_lt, not-true}
+use Rattle.std.proofs.lemmas.Bool.{cond_both, ltb-false, lt-ltb, le-ltb, and_from, and_parts}
 use Rattle.std.proofs.lemmas.List.{append-nil}
 use Rattle.jl_logic.specs.Answers.{Gives}
 use Rattle.jl_reading.specs.Reading.{IsBytes}
@@ -17,7 +17,7 @@ use Rattle.jl_code.specs.declared.code.Code.{Code}
 use Rattle.jl_code.specs.declared.walking.Walked.{Walked}
 use Rattle.jl_code.specs.Told.{told}
 use Rattle.jl_code.specs.Instructions.{instr_at}
-use Rattle.jl_code.specs.Places.{next_place, places_from, places, stands}
+use Rattle.jl_code.specs.Places.{places_from, places, stands}
 use Rattle.jl_code.specs.Walking.{up_to, walk_on, walk}
 use Rattle.jl_code.specs.Decoding.{first_where, leads_right, first_astray, is_right_handler, wrong_handler, kind_of, unless, empty, judged, code_of}
 use Rattle.jl_code.specs.Spelling.{InstrStands, StandInstrs, IsCode}
@@ -110,9 +110,9 @@ first_none test [] e = refl
 first_none test (i ∷ is) e0 =
     cond_both (not (test i)) (Some i) (first_where (λ i. not (test i)) is) (λ o. o ≡ None → IsTrue (list_all test (i ∷ is)))
     (λ n e. absurd cc) (λ t e. and_from (test i) (list_all test is) (sym (not_not (test i)) ∙ ap not t) (first_none test is e)) e0 where
-  not_not : (b : Bool) → not (not b) ≡ b
-  not_not true = refl
-  not_not false = refl
+      not_not : (b : Bool) → not (not b) ≡ b
+      not_not true = refl
+      not_not false = refl
 
 first_all : (test : Instr → Bool) (is : List Instr) → IsTrue (list_all test is) → first_where (λ i. not (test i)) is ≡ None
 unfolding first_where
@@ -124,9 +124,9 @@ all_long right [] le = refl
 all_long right (h ∷ hs) le0 =
     cond_both (not (not (right h))) (1 + prefix_len (λ h. not (not (right h))) hs) 0 (λ n. length (h ∷ hs) ≤ n → IsTrue (list_all right (h ∷ hs)))
     (λ r le. and_from (right h) (list_all right hs) (sym (not_not (right h)) ∙ r) (all_long right hs (omega arith))) (λ r le. absurd (omega arith)) le0 where
-  not_not : (b : Bool) → not (not b) ≡ b
-  not_not true = refl
-  not_not false = refl
+      not_not : (b : Bool) → not (not b) ≡ b
+      not_not true = refl
+      not_not false = refl
 
 long_all : (right : Handler → Bool) (hs : List Handler) → IsTrue (list_all right hs) → length hs ≤ prefix_len (λ h. not (not (right h))) hs
 long_all right [] all = omega arith

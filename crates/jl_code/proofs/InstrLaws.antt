@@ -1,25 +1,24 @@
 -- Instructions: what is read is spelled so, and what is spelled so is read and has its length.
-use Rattle.std.proofs.Common.{◌≡◌, ℕ, zero, suc, ◌+◌, ◌≤◌, ◌<◌, ◌⊎◌, inl, inr, Bool, true, false, not, cond, ltb, List, length, Option, None, Some, Result, Ok, Err, refl, sym, ap, subst, ◌∙◌, arith}
-use Rattle.std.specs.Prelude.{IsTrue, ◌==◌, ◌&&◌, ◌||◌}
-use Rattle.std.specs.Int.{cast_signed, w8, w16, w32}
-use Rattle.std.proofs.lemmas.Bool.{cond_both, eqb-true, le-ltb, and_from, and_parts, not-true, cases_Bool}
+use Rattle.std.proofs.Common.{◌≡◌, ℕ, ◌+◌, ◌≤◌, ◌<◌, inl, inr, Bool, true, false, not, cond, List, length, None, Some, Result, Ok, Err, refl, sym, ap, subst, ◌∙◌, arith}
+use Rattle.std.specs.Prelude.{◌==◌, ◌||◌}
+use Rattle.std.specs.Int.{cast_signed, w16, w32}
+use Rattle.std.proofs.lemmas.Bool.{cond_both, eqb-true, and_from, and_parts, not-true}
 use Rattle.jl_reading.specs.Reading.{◌>>=◌, IsBytes}
 use Rattle.jl_reading.proofs.Steps.{bind_ok, ok_is}
 use Rattle.jl_pool.specs.declared.entry.Entry.{Entry}
 use Rattle.jl_optable.specs.declared.form.Operands.{Operands}
 use Rattle.jl_optable.specs.declared.form.Operands.TheVariants as kinds
-use Rattle.jl_optable.specs.declared.form.Form.{Form}
 use Rattle.jl_optable.specs.Rows.{is_within, has_row, operands_of, row_of, form_of}
 use Rattle.jl_code.specs.declared.fault.CodeFault.{CodeFault}
 use Rattle.jl_code.specs.declared.fault.CodeFault.TheVariants as faults
 use Rattle.jl_code.specs.declared.code.Arg.{Arg}
 use Rattle.jl_code.specs.declared.code.Arg.TheVariants as args
 use Rattle.jl_code.specs.declared.code.Instr.{Instr}
-use Rattle.jl_code.specs.Operands.{operand_at, wide_inc_at}
+use Rattle.jl_code.specs.Operands.{wide_inc_at}
 use Rattle.jl_code.specs.Instructions.{local_at, arg_at, names_local, wide_arg_at, wide_at, plain_at, form_at, instr_at}
-use Rattle.jl_code.specs.Spelling.{StandsNumber, IsOne, IsTwo, IsInterface, ArgStands, WideArgStands, IsPlain, IsWide, InstrStands}
-use Rattle.jl_code.specs.Places.{whole_to, wide_end, end_at, form_end, next_place}
-use Rattle.jl_code.proofs.Chains.{Begun, begun, again, ends, one_stands, one_again, one_forth, two_stand, two_again, two_forth}
+use Rattle.jl_code.specs.Spelling.{StandsNumber, IsInterface, ArgStands, WideArgStands, IsPlain, IsWide, InstrStands}
+use Rattle.jl_code.specs.Places.{whole_to, wide_end, end_at, next_place}
+use Rattle.jl_code.proofs.Chains.{begun, again, ends, one_stands, one_again, one_forth, two_stand, two_again, two_forth}
 use Rattle.jl_code.proofs.Offsets.{branch_forth}
 use Rattle.jl_code.proofs.Switching.{table_forth, lookup_forth}
 use Rattle.jl_code.proofs.ArgLaws.{arg_stands, arg_again, whole, one_length, two_length, table_length, lookup_length}

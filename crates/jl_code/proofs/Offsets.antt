@@ -1,6 +1,6 @@
 -- Offsets: what is read leads to a place, and what leads to one is read.
-use Rattle.std.proofs.Common.{◌≡◌, ℕ, ◌+◌, ◌≤◌, ◌<◌, Bool, true, false, cond, ltb, ℤ, pos, negsuc, ◌+ℤ◌, List, length, Result, Ok, Err, refl, sym, ap, subst, ◌∙◌, arith}
-use Rattle.std.specs.Int.{Width, cast_signed, w32}
+use Rattle.std.proofs.Common.{◌≡◌, ℕ, ◌+◌, ◌≤◌, ◌<◌, Bool, true, false, cond, ltb, ℤ, pos, negsuc, ◌+ℤ◌, List, length, Result, Ok, Err, refl, sym, ap, subst, arith}
+use Rattle.std.specs.Int.{Width, cast_signed}
 use Rattle.std.proofs.lemmas.Bool.{lt-ltb, ltb-true}
 use Rattle.jl_reading.specs.Reading.{◌>>=◌, IsBytes}
 use Rattle.jl_reading.proofs.Steps.{bind_ok, ok_is}
@@ -8,9 +8,9 @@ use Rattle.jl_code.specs.declared.fault.CodeFault.{CodeFault}
 use Rattle.jl_code.specs.declared.fault.CodeFault.TheVariants as faults
 use Rattle.jl_code.specs.declared.code.Arg.{Arg}
 use Rattle.jl_code.specs.declared.code.Arg.TheVariants as args
-use Rattle.jl_code.specs.Operands.{operand_at, place_or, target, branch_at, case_at}
+use Rattle.jl_code.specs.Operands.{operand_at, place_or, target, branch_at}
 use Rattle.jl_code.specs.Spelling.{StandsNumber, LeadsTo, IsBranch}
-use Rattle.jl_code.proofs.Chains.{Begun, begun, again, ends}
+use Rattle.jl_code.proofs.Chains.{begun, again, ends}
 
 place_is : (n : ℕ) (b : Bool) (f : CodeFault) (p : ℕ) → cond b (Ok n) (Err f) ≡ Ok p → (b ≡ true) × (n ≡ p)
 place_is n true f p e = (refl, ok_is n p e)

@@ -2,7 +2,7 @@
 use Rattle.std.proofs.Common.{◌≡◌, ℕ, zero, suc, ◌+◌, ◌-◌, ◌*◌, ◌≤◌, ◌<◌, ◌^◌, Bool, true, false, cond, ltb, leb, ℤ, pos, ◌+ℤ◌, List, [], ◌∷◌, ◌++◌, length, length-append, append_assoc, slice_get, Option, None, Some, Result, Ok, Err, refl, sym, ap, subst, ◌∙◌, arith}
 use Rattle.std.specs.Prelude.{IsTrue, int_lt}
 use Rattle.std.specs.Int.{cast_signed, w32}
-use Rattle.std.proofs.lemmas.Bool.{ltb-false, le-ltb, lt-leb, leb-false}
+use Rattle.std.proofs.lemmas.Bool.{le-ltb, lt-leb, leb-false}
 use Rattle.std.proofs.lemmas.List.{append-nil}
 use Rattle.jl_reading.specs.Reading.{◌>>=◌, each_at, IsBytes}
 use Rattle.jl_reading.proofs.Steps.{bind_ok, guard_ok, ok_is}
@@ -12,8 +12,8 @@ use Rattle.jl_code.specs.declared.code.Arg.{Arg}
 use Rattle.jl_code.specs.declared.code.Arg.TheVariants as args
 use Rattle.jl_code.specs.Operands.{operand_at, target, case_at, table_case, table_at, lookup_case, lookup_at, keys_between, is_above, padded}
 use Rattle.jl_code.specs.Spelling.{StandsNumber, LeadsTo, TableCases, IsTable, LookupCases, IsLookup}
-use Rattle.jl_code.proofs.Chains.{Begun, begun, again, ends, passed}
-use Rattle.jl_code.proofs.Offsets.{placed, placed_again, Led, led, led_again}
+use Rattle.jl_code.proofs.Chains.{begun, again, passed}
+use Rattle.jl_code.proofs.Offsets.{placed, placed_again, led, led_again}
 
 abbrev Case : Type 0
 Case = ℤ × ℕ

@@ -1,7 +1,7 @@
 -- The code of a method as instructions, or as a stub, or the first fault (JVMS 4.7.3, 4.9.1).
 use Rattle.std.specs.Prelude.{ℕ, nat_lt, List, [], ◌∷◌, length, position, Option, None, Some, Result, Ok, Err, Bool, true, not, ◌&&◌, ◌||◌, ◌==◌, if◌then◌else◌, is_some}
 use Rattle.std.specs.Option.{option_map}
-use Rattle.std.specs.List.{list_any, list_all}
+use Rattle.std.specs.List.{list_all}
 use Rattle.jl_prim.specs.declared.declaration.Handler.{Handler}
 use Rattle.jl_pool.specs.declared.entry.Entry.{Entry}
 use Rattle.jl_pool.specs.Pool.{class_of}

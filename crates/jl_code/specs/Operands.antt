@@ -68,11 +68,11 @@ table_at at code next = do
   low ← operand_at at 4 code other.1
   high ← operand_at at 4 code low.1
   if int_lt (cast_signed w32 high.0) (cast_signed w32 low.0) then Err (faults.BadTarget at)
-    else if nat_lt (length code) (high.1 + 4 * keys_between (cast_signed w32 low.0) (cast_signed w32 high.0)) then Err (faults.ShortOperand at)
-    else (do
-      place ← target at code (cast_signed w32 other.0)
-      cases ← each_at (table_case at code (cast_signed w32 low.0)) [] (keys_between (cast_signed w32 low.0) (cast_signed w32 high.0)) high.1
-      Ok (args.Switch place cases.0, cases.1))
+      else if nat_lt (length code) (high.1 + 4 * keys_between (cast_signed w32 low.0) (cast_signed w32 high.0)) then Err (faults.ShortOperand at)
+      else (do
+        place ← target at code (cast_signed w32 other.0)
+        cases ← each_at (table_case at code (cast_signed w32 low.0)) [] (keys_between (cast_signed w32 low.0) (cast_signed w32 high.0)) high.1
+        Ok (args.Switch place cases.0, cases.1))
 
 -- the key is above that of the last case
 abbrev pub is_above : ℤ → Option (ℤ × ℕ) → Bool

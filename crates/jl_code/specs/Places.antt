@@ -1,5 +1,5 @@
 -- Where instructions stand, by opcodes and lengths alone (JVMS 4.9.1, 6.5).
-use Rattle.std.specs.Prelude.{ℕ, zero, suc, ◌+◌, ◌*◌, ◌^◌, nat_lt, nat_le, List, [], ◌∷◌, length, slice_index_or, Option, None, Some, Result, Ok, Err, Bool, true, false, ◌==◌, if◌then◌else◌, int_lt}
+use Rattle.std.specs.Prelude.{ℕ, zero, suc, ◌+◌, ◌*◌, ◌^◌, nat_lt, nat_le, List, [], ◌∷◌, length, slice_index_or, Option, None, Some, Result, Ok, Err, Bool, false, ◌==◌, if◌then◌else◌, int_lt}
 use Rattle.std.specs.List.{list_any}
 use Rattle.std.specs.Int.{cast_signed, w32}
 use Rattle.jl_reading.specs.Reading.{◌>>=◌}
@@ -34,8 +34,8 @@ unfoldable pub wide_end : ℕ → List ℕ → ℕ → Result ℕ CodeFault
 wide_end at code next = do
   op ← operand_at at 1 code next
   if op.0 == 132 then whole_to at code (op.1 + 4)
-    else if names_local op.0 then whole_to at code (op.1 + 2)
-    else Err (faults.UnknownOp at)
+      else if names_local op.0 then whole_to at code (op.1 + 2)
+      else Err (faults.UnknownOp at)
 
 -- how many bytes operands take that always take as many
 abbrev pub size_of : Operands → ℕ

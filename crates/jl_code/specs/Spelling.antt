@@ -1,5 +1,5 @@
 -- How instructions spell (JVMS 6.5), and the code of a method as the instructions that stand in it (JVMS 4.9.1).
-use Rattle.std.specs.Prelude.{◌≡◌, ℕ, ◌+◌, ◌*◌, ◌^◌, ◌<◌, List, [], ◌∷◌, length, map, Option, None, Some, Bool, true, false, not, ◌&&◌, ◌||◌, ◌==◌, IsTrue, ℤ, pos, ◌+ℤ◌, int_lt, ◌⊎◌}
+use Rattle.std.specs.Prelude.{◌≡◌, ℕ, ◌+◌, ◌^◌, ◌<◌, List, [], ◌∷◌, length, map, Option, None, Some, Bool, true, false, not, ◌&&◌, ◌==◌, IsTrue, ℤ, pos, ◌+ℤ◌, int_lt, ◌⊎◌}
 use Rattle.std.specs.Int.{Width, cast_signed, w8, w16, w32}
 use Rattle.std.specs.List.{list_all}
 use Rattle.byteorder.specs.Endian.{big_bytes}

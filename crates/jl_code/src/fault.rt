@@ -15,7 +15,8 @@ pub enum CodeFault {
     UnknownOp(u32),
     /// The operands are not whole.
     ShortOperand(u32),
-    /// A branch leads to a place where no instruction stands, or the keys of a switch do not rise.
+    /// A branch leads to a place where no instruction stands, the keys of a switch do not rise, or the count of
+    /// its pairs is negative.
     BadTarget(u32),
     /// The handler at this place of the list has a range, a target or a catch type that is none.
     BadRange(usize),

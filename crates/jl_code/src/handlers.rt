@@ -20,7 +20,12 @@ fn is_right_handler(pool: &Pool, code: &[u8], marks: &[bool], handler: &Handler)
 }
 
 /// The place in the list of the first handler that is not right.
-pub fn wrong_handler(pool: &Pool, code: &[u8], marks: &[bool], handlers: &[Handler]) -> Option<usize>
+pub fn wrong_handler(
+    pool: &Pool,
+    code: &[u8],
+    marks: &[bool],
+    handlers: &[Handler],
+) -> Option<usize>
     ensures { result ≡ words.wrong_handler pool.now code.now (is_marked marks.now) handlers.now }
 {
     handlers

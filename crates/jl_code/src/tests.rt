@@ -42,7 +42,7 @@ const POOL: [u8; 173] = [
 ];
 
 /// Codes, with how many of their bytes are meant, and the fault of each.
-const FAULTS: [(usize, [u8; 8], CodeFault); 35] = [
+const FAULTS: [(usize, [u8; 8], CodeFault); 38] = [
     (0, [0, 0, 0, 0, 0, 0, 0, 0], CodeFault::Empty),
     (1, [0xa8, 0, 0, 0, 0, 0, 0, 0], CodeFault::UnknownOp(0)),
     (2, [0, 0xff, 0, 0, 0, 0, 0, 0], CodeFault::UnknownOp(1)),
@@ -61,6 +61,17 @@ const FAULTS: [(usize, [u8; 8], CodeFault); 35] = [
     (4, [0xa7, 0, 1, 0, 0, 0, 0, 0], CodeFault::BadTarget(0)),
     (4, [0xa7, 0, 2, 0, 0, 0, 0, 0], CodeFault::BadTarget(0)),
     (5, [0xa7, 0, 4, 0, 0xa8, 0, 0, 0], CodeFault::BadTarget(0)),
+    (6, [0xa7, 0, 5, 0x12, 0, 0xb1, 0, 0], CodeFault::BadIndex(3)),
+    (
+        7,
+        [0xa7, 0, 6, 0xa7, 0, 100, 0xb1, 0],
+        CodeFault::BadTarget(3),
+    ),
+    (
+        6,
+        [0xa7, 0, 4, 0x12, 0, 0xb1, 0, 0],
+        CodeFault::BadTarget(0),
+    ),
     (5, [0xc8, 0, 0, 0, 5, 0, 0, 0], CodeFault::BadTarget(0)),
     (4, [0xc4, 0, 0, 0, 0, 0, 0, 0], CodeFault::UnknownOp(0)),
     (1, [0xc4, 0, 0, 0, 0, 0, 0, 0], CodeFault::ShortOperand(0)),

@@ -1,4 +1,4 @@
-use Rattle.std.proofs.Common.{◌∙◌, sym, ap, length, List, Bool, arith, length-set}
+use Rattle.std.proofs.Common.{◌∙◌, sym, arith, length-set}
 use Rattle.std.proofs.lemmas.List.{length-replicate}
 use Rattle.jl_code.proofs.Marks.{follows_first, follows_more, follows_to_end, follows_to_fault}
 use Rattle.jl_code.proofs.places.marks_of.Goals as goal
