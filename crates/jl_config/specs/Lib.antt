@@ -1,7 +1,8 @@
 pub mod Graphs
+pub mod Located
 pub mod Members
-pub mod Missing
-pub mod Places
+pub mod Orders
+pub mod Refusals
 pub mod Resolves
-pub mod Unique
-pub mod Always
+pub mod Laws
+pub mod Places

@@ -5,16 +5,12 @@ mod configuration;
 mod fault;
 mod law;
 mod members;
-mod missing;
-mod places;
-mod readings;
 mod resolution;
-mod universe;
+mod sights;
+mod site;
 
 pub use configuration::{Configuration, Read};
 pub use fault::ResolveFault;
-pub use law::{resolves_always, resolves_once};
+pub use law::{refuses_where_one_holds, resolves_always, resolves_once};
 pub use resolution::resolve;
-
-#[cfg(test)]
-mod tests;
+pub use site::Site;
