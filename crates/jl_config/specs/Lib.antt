@@ -5,4 +5,6 @@ pub mod Orders
 pub mod Refusals
 pub mod Resolves
 pub mod Laws
+pub mod Lineages
+pub mod Tables
 pub mod Places

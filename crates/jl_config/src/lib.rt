@@ -1,6 +1,7 @@
 //! Resolution of modules (JLS 7.7.1, `java.lang.module.Configuration`).
 #![tactic(auto)]
 
+mod ancestors;
 mod configuration;
 mod fault;
 mod law;
@@ -8,6 +9,7 @@ mod members;
 mod resolution;
 mod sights;
 mod site;
+mod tables;
 
 pub use configuration::{Configuration, Read};
 pub use fault::ResolveFault;
