@@ -1,2 +1,4 @@
+pub mod MemberLists
+pub mod MemberOrder
 pub mod Noting
 pub mod Sighted

@@ -5,6 +5,8 @@ pub mod Orders
 pub mod Refusals
 pub mod Resolves
 pub mod Laws
+pub mod Places
 pub mod Lineages
 pub mod Tables
-pub mod Places
+pub mod MemberRows
+pub mod Placed
