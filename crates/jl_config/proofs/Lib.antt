@@ -1,4 +1,7 @@
+pub mod MemberChains
+pub mod MemberFinds
 pub mod MemberLists
+pub mod MemberMarks
 pub mod MemberOrder
 pub mod Noting
 pub mod Sighted
