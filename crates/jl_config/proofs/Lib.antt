@@ -1,8 +1,11 @@
+pub mod FaultOrders
 pub mod MemberChains
 pub mod MemberFinds
 pub mod MemberLists
 pub mod MemberMarks
 pub mod MemberOrder
 pub mod MemberPlaces
+pub mod MissingLeasts
+pub mod MissingWhole
 pub mod Noting
 pub mod Sighted

@@ -10,3 +10,4 @@ pub mod Lineages
 pub mod Tables
 pub mod MemberRows
 pub mod Placed
+pub mod MissingNames

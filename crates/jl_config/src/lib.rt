@@ -7,6 +7,7 @@ mod fault;
 mod law;
 mod member_rows;
 mod members;
+mod missing;
 mod placed;
 mod provisions;
 mod resolution;
