@@ -11,3 +11,4 @@ pub mod Tables
 pub mod MemberRows
 pub mod Placed
 pub mod MissingNames
+pub mod Rounds

@@ -2,6 +2,7 @@
 #![tactic(auto)]
 
 mod ancestors;
+mod circle;
 mod configuration;
 mod fault;
 mod law;

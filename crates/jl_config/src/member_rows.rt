@@ -80,7 +80,8 @@ fn place_of_needed(sights: &Sights, entry: &Requires) -> Option<usize>
     }
 }
 
-fn push_some(places: &mut Vec<usize>, place: Option<usize>) -> Result<(), CopyEnd>
+/// Adds a place, where there is one.
+pub fn push_some(places: &mut Vec<usize>, place: Option<usize>) -> Result<(), CopyEnd>
     ensures { OnOk result (places.new.items ≡ places.old.items ++ option_to_list place) }
 {
     if let Some(place) = place {
