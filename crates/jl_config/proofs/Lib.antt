@@ -1,3 +1,4 @@
+pub mod Circles
 pub mod FaultOrders
 pub mod MemberChains
 pub mod MemberFinds

@@ -1,10 +1,13 @@
 //! Modules that require each other in a circle.
 
-ghost use Rattle.std.specs.Prelude.{◌≡◌, ◌++◌, ◌<◌, ◌↔◌, length, All, IsTrue, IfOk, OnOk};
+ghost use Rattle.std.specs.Prelude.{◌≡◌, ◌++◌, ◌<◌, ◌↔◌, length, All, IsTrue, IfOk, OnOk, Some, slice_get};
 ghost use Rattle.std.specs.List.{filter_map};
 ghost use Rattle.jl_config.specs.Rounds.{edge_place, edge_row, edge_rows, kept_marked, Rounds, IsFirstRound};
 ghost use Rattle.jl_config.specs.Places.{AreMarks, AreMembers, CycleFault, IsLeastSome};
 ghost use Rattle.jl_config.specs.Refusals.{fault_cmp};
+ghost use Rattle.jl_config.specs.Located.{site_name};
+ghost use Rattle.jl_config.specs.declared.fault.ResolveFault.TheVariants.{Cycle};
+ghost use Rattle.jl_config.specs.declared.site.Site.{Site};
 
 use crate::fault::ResolveFault;
 use crate::member_rows::push_some;
@@ -28,10 +31,16 @@ pub fn least_cycle(
     let rows = rows_of_edges(alloc, sights, members.marks.as_slice())?;
     match first_round(alloc, rows.as_slice(), members.places.as_slice())? {
         None => Ok(None),
-        Some(place) => Ok(Some(ResolveFault::Cycle {
-            least: sights.sites()[place].observed.declaration.name.copy()?,
-        })),
+        Some(place) => Ok(Some(cycle_at(sights.sites(), place)?)),
     }
+}
+
+fn cycle_at(sites: &[Site], place: usize) -> Result<ResolveFault, CopyEnd>
+    requires { place < length sites.now }
+    ensures { IfOk result (λ fault. (s : Site) × (slice_get sites.now place ≡ Some s) × (fault ≡ Cycle (site_name s))) }
+{
+    let least = sites[place].observed.declaration.name.copy()?;
+    Ok(ResolveFault::Cycle { least })
 }
 
 fn rows_of_edges(
