@@ -1,9 +1,8 @@
-pub mod Circles
+pub mod CyclePlaces
 pub mod FaultOrders
 pub mod MemberChains
 pub mod MemberFinds
 pub mod MemberLists
-pub mod MemberMarks
 pub mod MemberOrder
 pub mod MemberPlaces
 pub mod MissingLeasts

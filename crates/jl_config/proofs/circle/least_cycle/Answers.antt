@@ -6,7 +6,7 @@ use Rattle.jl_config.specs.declared.fault.ResolveFault.{ResolveFault}
 use Rattle.jl_config.specs.Places.{AreMarks, CycleFault}
 use Rattle.jl_config.specs.Refusals.{fault_cmp}
 use Rattle.jl_config.specs.Rounds.{edge_rows, IsFirstRound}
-use Rattle.jl_config.proofs.Circles.{edges_within, edges_long, no_cycle, cycle_right, first_within}
+use Rattle.jl_config.proofs.CyclePlaces.{edges_within, edges_long, no_cycle, cycle_right, first_within}
 use Rattle.jl_config.proofs.circle.least_cycle.Goals as goal
 
 pub first_round-requires-clause-graph : goal.first_round-requires-clause-graph

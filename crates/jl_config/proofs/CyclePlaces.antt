@@ -121,107 +121,9 @@ module _ (w : Scene) (marks : List Bool) (right : AreMarks w marks) where
       let s = from_map Edges w.sites r c in
       subst (λ (l : List ℕ). All (λ p. p < length w.sites) l) s.2 (edges_below s.0))
 
-  -- ---- names on circles always make a list
-
-  abbrev Below : ℕ → List ℕ → Type 0
-  Below n name = (p : ℕ) × (s : Site) × (p < n) × FoundAt w p s × IsMember w s × (site_name s ≡ name) × Rounds Rows p
-
-  -- the names of those below place n
-  abbrev Names : ℕ → Type 0
-  Names n = (names : List (List ℕ)) × ((name : List ℕ) → Contains names name → Below n name) × ((name : List ℕ) → Below n name → Contains names name)
-
-  abbrev OnRound : ℕ → Type 0
-  OnRound p = (s : Site) × FoundAt w p s × IsMember w s × Rounds Rows p
-
-  round_or_not : (p : ℕ) (s : Site) → FoundAt w p s → IsMember w s → OnRound p ⊎ (OnRound p → ⊥)
-  round_or_not p s f m =
-      let row : get_or Rows p [] ≡ Edges s = row_at Edges w.sites p s [] f.at in
-      let start : All (λ k. k < length Rows) (get_or Rows p []) = subst (λ (l : List ℕ). All (λ k. k < length Rows) l) (sym row) (subst (λ (n : ℕ). All (λ k. k < n) (Edges s)) (sym edges_long) (edges_below s)) in
-      let graph : All (λ r. All (λ k. k < length Rows) r) Rows = subst (λ (n : ℕ). All (λ r. All (λ k. k < n) r) Rows) (sym edges_long) edges_within in
-      let made = marks_exist Rows (get_or Rows p []) graph start in
-      by made.0 made.1 (slice_get made.0 p) refl
-    where
-      by : (made : List Bool) → AreMarksOf Rows (get_or Rows p []) made → (o : Option Bool) → slice_get made p ≡ o → OnRound p ⊎ (OnRound p → ⊥)
-      by made of None e = inr (λ h. let t : slice_get made p ≡ Some true = of.all p h.3 in absurd cc)
-      by made of (Some true) e = inl (s, f, m, of.only p e)
-      by made of (Some false) e = inr (λ h. let t : slice_get made p ≡ Some true = of.all p h.3 in let c : Some false ≡ Some true = sym e ∙ t in absurd cc)
-
-  member_or_not : (p : ℕ) (s : Site) → slice_get w.sites p ≡ Some s → OnRound p ⊎ (OnRound p → ⊥)
-  member_or_not p s at = by (slice_get marks p) refl
-    where
-      marked : OnRound p → slice_get marks p ≡ Some true
-      marked h = let f : FoundAt w p h.0 = h.1 in right.all p h.0 f.at h.2 f.first
-
-      by : (o : Option Bool) → slice_get marks p ≡ o → OnRound p ⊎ (OnRound p → ⊥)
-      by None e = inr (λ h. let c : None ≡ Some true = sym e ∙ marked h in absurd cc)
-      by (Some false) e = inr (λ h. let c : Some false ≡ Some true = sym e ∙ marked h in absurd cc)
-      by (Some true) e =
-          let k = right.only p s at e in
-          let r = member_reached w s k.0 in
-          let g : FoundAt w r.0 s = r.1 in
-          round_or_not p s (record { at = at; found = g.found; first = k.1 }) k.0
-
   item_of : (ss : List Site) (p : ℕ) → p < length ss → (s : Site) × (slice_get ss p ≡ Some s)
   item_of [] p lt = absurd (omega arith)
   item_of (s ∷ ss) p lt = (get_or (s ∷ ss) p s, slice_get-get_or (s ∷ ss) p s lt)
-
-  wider : (n : ℕ) (name : List ℕ) → Below n name → Below (suc n) name
-  wider n name h = (h.0, h.1, omega (arith, h.2), h.3, h.4, h.5, h.6)
-
-  -- below n, or n itself
-  split : (n : ℕ) (name : List ℕ) → Below (suc n) name → Below n name ⊎ ((s : Site) × FoundAt w n s × (site_name s ≡ name) × OnRound n)
-  split n name h =
-      ⊎_elim
-      (λ lt. inl (h.0, h.1, lt, h.3, h.4, h.5, h.6))
-      (λ ge.
-      let same : h.0 ≡ n = omega (arith, h.2, ge) in
-      let f : FoundAt w n h.1 = subst (λ (k : ℕ). FoundAt w k h.1) same h.3 in
-      inr (h.1, f, h.5, (h.1, f, h.4, subst (λ (k : ℕ). Rounds Rows k) same h.6)))
-      (cases_lt h.0 n)
-
-  one_more : (n : ℕ) → Names n → OnRound n ⊎ (OnRound n → ⊥) → Names (suc n)
-  one_more n before (inl h) =
-      let f : FoundAt w n h.0 = h.1 in
-      (
-        site_name h.0 ∷ before.0,
-        (λ name c. ⊎_elim (λ e. (n, h.0, omega arith, h.1, h.2, e, h.3)) (λ k. wider n name (before.1 name k)) (contains_cases (site_name h.0) name before.0 c)),
-        (λ name b.
-            ⊎_elim
-            (λ earlier. contains_tail (site_name h.0) name before.0 (before.2 name earlier))
-            (λ k.
-            let g : FoundAt w n k.0 = k.1 in
-            let same : h.0 ≡ k.0 = same_item h.0 k.0 (slice_get w.sites n) f.at g.at in
-            subst (λ (l : List ℕ). Contains (site_name h.0 ∷ before.0) l) (ap site_name same ∙ k.2) (contains_head (site_name h.0) before.0))
-            (split n name b)),
-      )
-  one_more n before (inr not_one) =
-      (before.0, (λ name c. wider n name (before.1 name c)), (λ name b. ⊎_elim (λ earlier. before.2 name earlier) (λ k. absurd (not_one k.3)) (split n name b)))
-
-  none_below : (name : List ℕ) → Below 0 name → ⊥
-  none_below name h = omega (arith, h.2)
-
-  names_to : (n : ℕ) → n ≤ length w.sites → Names n
-  names_to zero le = ([], (λ name c. contains_nothing name c), (λ name b. absurd (none_below name b)))
-  names_to (suc n) le =
-      let at = item_of w.sites n (omega (arith, le)) in
-      one_more n (names_to n (omega (arith, le))) (member_or_not n at.0 at.1)
-
-  pub names_on_circles : (names : List (List ℕ)) × ((name : List ℕ) → (IsOnCircle w name → Contains names name) × (Contains names name → IsOnCircle w name))
-  names_on_circles =
-      let all = names_to (length w.sites) (omega arith) in
-      (
-        all.0,
-        λ name. (
-          (λ h.
-              let r = marked_at h.0 h.1 in
-              let f : FoundAt w r.0 h.0 = r.1 in
-              all.2 name (r.0, h.0, found_at_within w r.0 h.0 f, f, h.1, h.2, rounds_has r.0 h.0 f h.3.0 h.3.1)),
-          (λ c.
-              let b = all.1 name c in
-              let f : FoundAt w b.0 b.1 = b.3 in
-              (b.1, b.4, b.5, rounds_shows b.0 b.1 f.at b.6)),
-        ),
-      )
 
   -- ---- the least
 
@@ -324,6 +226,3 @@ module _ (w : Scene) (marks : List Bool) (right : AreMarks w marks) where
         below first (OwnPackage reader p other) h l = absurd h
         below first (ServicePackage n service) h l = absurd h
         below first NoMemory h l = absurd h
-
-pub circles_exist : (w : Scene) (marks : List Bool) → AreMarks w marks → (names : List (List ℕ)) × ((name : List ℕ) → (IsOnCircle w name → Contains names name) × (Contains names name → IsOnCircle w name))
-circles_exist w marks right = names_on_circles w marks right
