@@ -1,2 +1,5 @@
+pub mod Always
 pub mod FaultOrder
+pub mod Listings
+pub mod Sorted
 pub mod Unique
