@@ -1,5 +1,10 @@
 pub mod Always
+pub mod Circles
+pub mod FaultListings
 pub mod FaultOrder
+pub mod Listed
 pub mod Listings
+pub mod MemberMarks
+pub mod ReadMarks
 pub mod Sorted
 pub mod Unique
