@@ -46,7 +46,7 @@ services s =
     listing_either (Uses s) (IsProvidedBy s) (listing_items s.observed.declaration.uses)
     (listing_map (Contains s.observed.declaration.provides) (λ (p : Provides). p.service) (listing_items s.observed.declaration.provides))
 
-decided_config : (a b : ConfigId) → Decided (a ≡ b)
+pub decided_config : (a b : ConfigId) → Decided (a ≡ b)
 decided_config a b = decided_same (a.0 ≡ b.0) (a ≡ b) (λ e i. record { 0 = e i }) (λ e. ap (λ (c : ConfigId). c.0) e) (decided_number a.0 b.0)
 
 -- ---- what is not there

@@ -14,24 +14,36 @@ module _ {X : Type 0} (cmp : X → X → Ordering) (total : IsTotalOrder cmp) wh
   -- ---- the least
 
   lesser_of : (x : X) (xs : List X) (m : X) → IsLeast cmp (Contains xs) m → (o : Ordering) → cmp x m ≡ o → (n : X) × IsLeast cmp (Contains (x ∷ xs)) n
-  lesser_of x xs m h Less e = (x, record {
-    has = contains_head x xs;
-    least = λ y c l. ⊎_elim (λ f. not_below_itself x (subst (λ z. cmp z x ≡ Less) (sym f) l)) (λ k. h.least y k (total.trans y x m l e)) (contains_cases x y xs c);
-  })
-  lesser_of x xs m h Equal e = (m, record {
-    has = contains_tail x m xs h.has;
-    least = λ y c l. ⊎_elim (λ f. let g : cmp x m ≡ Less = subst (λ z. cmp z m ≡ Less) (sym f) l in absurd cc) (λ k. h.least y k l) (contains_cases x y xs c);
-  })
-  lesser_of x xs m h Greater e = (m, record {
-    has = contains_tail x m xs h.has;
-    least = λ y c l. ⊎_elim (λ f. let g : cmp x m ≡ Less = subst (λ z. cmp z m ≡ Less) (sym f) l in absurd cc) (λ k. h.least y k l) (contains_cases x y xs c);
-  })
+  lesser_of x xs m h Less e = (
+    x,
+    record {
+      has = contains_head x xs;
+      least = λ y c l. ⊎_elim (λ f. not_below_itself x (subst (λ z. cmp z x ≡ Less) (sym f) l)) (λ k. h.least y k (total.trans y x m l e)) (contains_cases x y xs c);
+    },
+  )
+  lesser_of x xs m h Equal e = (
+    m,
+    record {
+      has = contains_tail x m xs h.has;
+      least = λ y c l. ⊎_elim (λ f. let g : cmp x m ≡ Less = subst (λ z. cmp z m ≡ Less) (sym f) l in absurd cc) (λ k. h.least y k l) (contains_cases x y xs c);
+    },
+  )
+  lesser_of x xs m h Greater e = (
+    m,
+    record {
+      has = contains_tail x m xs h.has;
+      least = λ y c l. ⊎_elim (λ f. let g : cmp x m ≡ Less = subst (λ z. cmp z m ≡ Less) (sym f) l in absurd cc) (λ k. h.least y k l) (contains_cases x y xs c);
+    },
+  )
 
   least_of_items : (x : X) (xs : List X) → (m : X) × IsLeast cmp (Contains (x ∷ xs)) m
-  least_of_items x [] = (x, record {
-    has = contains_head x [];
-    least = λ y c l. ⊎_elim (λ f. not_below_itself x (subst (λ z. cmp z x ≡ Less) (sym f) l)) (λ k. contains_nothing y k) (contains_cases x y [] c);
-  })
+  least_of_items x [] = (
+    x,
+    record {
+      has = contains_head x [];
+      least = λ y c l. ⊎_elim (λ f. not_below_itself x (subst (λ z. cmp z x ≡ Less) (sym f) l)) (λ k. contains_nothing y k) (contains_cases x y [] c);
+    },
+  )
   least_of_items x (w ∷ xs) = let m = least_of_items w xs in lesser_of x (w ∷ xs) m.0 m.1 (cmp x m.0) refl
 
   -- of what has a property that is listed there is a least, or nothing has it

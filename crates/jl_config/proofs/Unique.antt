@@ -1,19 +1,16 @@
 -- A resolution has one answer.
-use Rattle.std.proofs.Common.{◌≡◌, ◌≢◌, ℕ, List, refl, sym, ◌∙◌, ap, subst, Contains, Result, Ok, Err}
+use Rattle.std.proofs.Common.{◌≡◌, ◌≢◌, List, refl, sym, ◌∙◌, ap, subst, Contains, Result, Ok, Err}
 use Rattle.jl_prim.specs.declared.declaration.Observed.{Observed}
-use Rattle.jl_prim.specs.declared.numbers.ConfigId.{ConfigId}
 use Rattle.jl_logic.specs.Order.{IsLeast}
 use Rattle.jl_logic.proofs.Rising.{same_rising, same_least}
 use Rattle.jl_config.specs.declared.configuration.Read.{Read}
 use Rattle.jl_config.specs.declared.fault.ResolveFault.{ResolveFault}
 use Rattle.jl_config.specs.declared.fault.ResolveFault.TheVariants.{NoParents, NotFound, TooMany, Cycle, SameName, SamePackage, OwnPackage, ServicePackage, NoMemory}
-use Rattle.jl_config.specs.declared.site.Site.{Site}
 use Rattle.jl_config.specs.Graphs.{Graph}
-use Rattle.jl_config.specs.Located.{Asked, Scene, scene_of, id_of}
-use Rattle.jl_config.specs.Members.{IsMember}
+use Rattle.jl_config.specs.Located.{Asked, Scene, scene_of}
 use Rattle.jl_config.specs.Orders.{module_cmp, read_cmp}
 use Rattle.jl_config.specs.Refusals.{Applies, fault_cmp}
-use Rattle.jl_config.specs.Resolves.{Resolves, AreModules, AreReads, IsGraphOf, read_of, new_site}
+use Rattle.jl_config.specs.Resolves.{Resolves, AreModules, AreReads, IsGraphOf, new_site}
 use Rattle.jl_config.proofs.FaultOrder.{fault_total, fault_exact, modules_apart, reads_apart}
 
 -- ---- what a refusal tells
