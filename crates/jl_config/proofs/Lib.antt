@@ -2,6 +2,7 @@ pub mod Always
 pub mod Circles
 pub mod FaultListings
 pub mod FaultOrder
+pub mod FoundPlaces
 pub mod Listed
 pub mod Listings
 pub mod MemberMarks
