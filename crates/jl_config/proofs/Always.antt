@@ -28,7 +28,7 @@ use Rattle.jl_config.proofs.Unique.{least_told, told_by_least}
 abbrev Made : {X : Type 0} → (X → Type 0) → (X → ResolveFault) → ResolveFault → Type 0
 Made {X} P make f = (x : X) × P x × (make x ≡ f)
 
-abbrev IsTooMany : Asked → Type 0
+abbrev pub IsTooMany : Asked → Type 0
 IsTooMany q = IsLarge (scene_of q) ⊎ (most ≤ length q.known)
 
 abbrev not_found : List ℕ × Option (List ℕ) → ResolveFault
@@ -128,7 +128,7 @@ modules_tied w o p k m e =
     let same : k.0 ≡ m.0 = one_of_name w k.0 m.0 k.1 m.1 (ap name_of k.2 ∙ names ∙ sym (ap name_of m.2)) in
     sym k.2 ∙ ap (λ (s : Site). s.observed) same ∙ m.2
 
-module_here : (q : Asked) (s : Site) (o : Observed) → IsMember (scene_of q) s → s.observed ≡ o → s ≡ new_site q o
+pub module_here : (q : Asked) (s : Site) (o : Observed) → IsMember (scene_of q) s → s.observed ≡ o → s ≡ new_site q o
 module_here q s o m e =
     let number : s.config.0 ≡ length q.known + 1 = eqb-true s.config.0 (length q.known + 1) (member_found (scene_of q) s m).by_finder in
     λ i. record { config = record { 0 = number i }; observed = e i }

@@ -1,4 +1,5 @@
 pub mod Always
+pub mod Assembled
 pub mod Circles
 pub mod FaultListings
 pub mod FaultOrder

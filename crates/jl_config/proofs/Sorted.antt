@@ -8,7 +8,7 @@ use Rattle.jl_logic.proofs.Rising.{contains_head, contains_tail, contains_cases,
 use Rattle.jl_config.proofs.Listings.{Listing}
 
 module _ {X : Type 0} (cmp : X → X → Ordering) (total : IsTotalOrder cmp) where
-  not_below_itself : (x : X) → cmp x x ≡ Less → ⊥
+  pub not_below_itself : (x : X) → cmp x x ≡ Less → ⊥
   not_below_itself x l = apart_from_total cmp total x x l l
 
   -- ---- the least

@@ -1,0 +1,197 @@
+-- A resolution put together of the searches for refusals of one kind each, and of the modules and reads.
+use Rattle.std.proofs.Common.{◌≡◌, ◌≢◌, ◌⊎◌, ◌<◌, ◌≤◌, ◌+◌, ℕ, zero, suc, ◌-◌, List, [], ◌∷◌, length, map, inl, inr, ⊎_elim, refl, sym, ◌∙◌, ap, subst, Contains, All, Option, Some, None, Bool, true, false, Ordering, Less, Equal, Greater, nat_cmp, Result, Ok, Err, slice_get, filter_map, arith}
+use Rattle.std.specs.List.{AllByRecursion, cons_option}
+use Rattle.std.specs.Ordering.{ordering_then}
+use Rattle.std.proofs.lemmas.Cmp.{ranked, by_ranked}
+use Rattle.std.proofs.lemmas.List.Elements.{All-from_recursion, All-contains, recursion_from_All}
+use Rattle.jl_prim.specs.declared.declaration.Observed.{Observed}
+use Rattle.jl_logic.specs.Order.{RisesBy, IsLeast}
+use Rattle.jl_logic.proofs.Rising.{contains_head, contains_tail, contains_cases, contains_nothing, each_from_members}
+use Rattle.jl_config.specs.declared.fault.ResolveFault.{ResolveFault}
+use Rattle.jl_config.specs.declared.fault.ResolveFault.TheVariants.{NoParents, NotFound, TooMany, Cycle, SameName, SamePackage, OwnPackage, ServicePackage, NoMemory}
+use Rattle.jl_config.specs.declared.site.Site.{Site}
+use Rattle.jl_config.specs.Graphs.{Graph}
+use Rattle.jl_config.specs.Located.{Asked, Scene, scene_of, id_of, site_name}
+use Rattle.jl_config.specs.Members.{IsFound, Enumerated, IsCaused, IsJustified, IsBound, IsMemberBy, IsMember}
+use Rattle.jl_config.specs.Orders.{module_cmp, site_cmp}
+use Rattle.jl_config.specs.Places.{AreMembers, sites_at, MissingFault, CycleFault, SameNameFault, SamePackageFault, OwnPackageFault, ServiceFault}
+use Rattle.jl_config.specs.Refusals.{IsLarge, most, Applies, rank, fields, fields_cmp, fault_cmp}
+use Rattle.jl_config.specs.Resolves.{Resolves, AreModules, AreJustified, new_site}
+use Rattle.jl_config.proofs.FaultOrder.{fault_total, sites_total}
+use Rattle.jl_config.proofs.Always.{IsTooMany, module_here}
+use Rattle.jl_config.proofs.Sorted.{not_below_itself, no_longer}
+use Rattle.jl_config.proofs.Unique.{told_by_least}
+
+-- ---- kinds of refusals, in their order
+
+-- K is what applies of the kind with this rank
+pub record IsKind (q : Asked) (k : ℕ) (K : ResolveFault → Type 0) : Type 0 where
+  pub applies : (f : ResolveFault) → K f → Applies q f
+  pub ranked : (f : ResolveFault) → K f → rank f ≡ k
+  pub all : (f : ResolveFault) → Applies q f → rank f ≡ k → K f
+
+-- no refusal of an earlier kind applies
+pub record NoneBefore (q : Asked) (k : ℕ) : Type 0 where
+  pub least : (f : ResolveFault) → Applies q f → k ≤ rank f
+
+pub none_at_first : (q : Asked) → NoneBefore q 0
+none_at_first q = record { least = λ f a. omega arith }
+
+pub none_further : (q : Asked) (k : ℕ) (K : ResolveFault → Type 0) → IsKind q k K → NoneBefore q k → ((f : ResolveFault) → K f → ⊥) → NoneBefore q (suc k)
+none_further q k K kind before none = record { least = λ f a. further (rank f) (before.least f a) (λ e. none f (kind.all f a e)) }
+  where
+    further : (r : ℕ) → k ≤ r → (r ≡ k → ⊥) → suc k ≤ r
+    further r h n = omega arith
+
+pub nothing_applies : (q : Asked) → NoneBefore q 8 → (f : ResolveFault) → Applies q f → ⊥
+nothing_applies q before NoParents a = let h = before.least NoParents a in omega arith
+nothing_applies q before (NotFound name by) a = let h = before.least (NotFound name by) a in omega arith
+nothing_applies q before TooMany a = let h = before.least TooMany a in omega arith
+nothing_applies q before (Cycle least) a = let h = before.least (Cycle least) a in omega arith
+nothing_applies q before (SameName reader name) a = let h = before.least (SameName reader name) a in omega arith
+nothing_applies q before (SamePackage reader p one other) a = let h = before.least (SamePackage reader p one other) a in omega arith
+nothing_applies q before (OwnPackage reader p other) a = let h = before.least (OwnPackage reader p other) a in omega arith
+nothing_applies q before (ServicePackage name service) a = let h = before.least (ServicePackage name service) a in omega arith
+nothing_applies q before NoMemory a = a
+
+-- one of a later kind is not less
+later_not_less : (f g : ResolveFault) → rank f < rank g → fault_cmp g f ≢ Less
+later_not_less f g lt e =
+    by_ranked (rank g < rank f) (rank g ≡ rank f) (rank f < rank g) (nat_cmp (rank g) (rank f)) (ranked (rank g) (rank f) (nat_cmp (rank g) (rank f)) refl)
+    (λ r h. omega arith)
+    (λ r h. omega arith)
+    (λ r h. let greater : ordering_then Greater (fields_cmp (fields g) (fields f)) ≡ Less = subst (λ o. ordering_then o (fields_cmp (fields g) (fields f)) ≡ Less) r e in absurd cc)
+
+-- the least of the first kind that applies is the answer
+pub first_refusal : (q : Asked) (k : ℕ) (K : ResolveFault → Type 0) → IsKind q k K → NoneBefore q k → (f : ResolveFault) → IsLeast fault_cmp K f → Resolves q (Err f)
+first_refusal q k K kind before f least = told_by_least q f (record {
+  has = kind.applies f least.has;
+  least = λ g a. ⊎_elim (λ e. least.least g (kind.all g a e)) (λ lt. later_not_less f g (past (rank f) (rank g) (kind.ranked f least.has) lt)) (same_or_later (rank g) (before.least g a));
+})
+  where
+    past : (r s : ℕ) → r ≡ k → k < s → r < s
+    past r s e lt = omega arith
+
+    same_or_later : (s : ℕ) → k ≤ s → (s ≡ k) ⊎ (k < s)
+    same_or_later s h = by (s - k) refl
+      where
+        by : (d : ℕ) → s - k ≡ d → (s ≡ k) ⊎ (k < s)
+        by zero e = inl (omega arith)
+        by (suc d) e = inr (omega arith)
+
+-- ---- each kind
+
+abbrev pub NoParentsFault : Asked → ResolveFault → Type 0
+NoParentsFault q f = (q.parents ≡ []) × (NoParents ≡ f)
+
+abbrev pub TooManyFault : Asked → ResolveFault → Type 0
+TooManyFault q f = IsTooMany q × (TooMany ≡ f)
+
+no_parents_all : (q : Asked) (f : ResolveFault) → Applies q f → rank f ≡ 0 → NoParentsFault q f
+no_parents_all q NoParents a e = (a, refl)
+no_parents_all q f a e = absurd (omega arith)
+
+pub no_parents_kind : (q : Asked) → IsKind q 0 (NoParentsFault q)
+no_parents_kind q = record { applies = λ f k. subst (Applies q) k.1 k.0; ranked = λ f k. ap rank (sym k.1); all = no_parents_all q }
+
+too_many_all : (q : Asked) (f : ResolveFault) → Applies q f → rank f ≡ 2 → TooManyFault q f
+too_many_all q TooMany a e = (a, refl)
+too_many_all q f a e = absurd (omega arith)
+
+pub too_many_kind : (q : Asked) → IsKind q 2 (TooManyFault q)
+too_many_kind q = record { applies = λ f k. subst (Applies q) k.1 k.0; ranked = λ f k. ap rank (sym k.1); all = too_many_all q }
+
+missing_applies : (q : Asked) (f : ResolveFault) → MissingFault (scene_of q) f → Applies q f × (rank f ≡ 1)
+missing_applies q (NotFound name by) k = (k, refl)
+missing_applies q f k = absurd k
+
+missing_all : (q : Asked) (f : ResolveFault) → Applies q f → rank f ≡ 1 → MissingFault (scene_of q) f
+missing_all q (NotFound name by) a e = a
+missing_all q f a e = absurd (omega arith)
+
+pub missing_kind : (q : Asked) → IsKind q 1 (MissingFault (scene_of q))
+missing_kind q = record { applies = λ f k. (missing_applies q f k).0; ranked = λ f k. (missing_applies q f k).1; all = missing_all q }
+
+cycle_applies : (q : Asked) (f : ResolveFault) → CycleFault (scene_of q) f → Applies q f × (rank f ≡ 3)
+cycle_applies q (Cycle least) k = (k, refl)
+cycle_applies q f k = absurd k
+
+cycle_all : (q : Asked) (f : ResolveFault) → Applies q f → rank f ≡ 3 → CycleFault (scene_of q) f
+cycle_all q (Cycle least) a e = a
+cycle_all q f a e = absurd (omega arith)
+
+pub cycle_kind : (q : Asked) → IsKind q 3 (CycleFault (scene_of q))
+cycle_kind q = record { applies = λ f k. (cycle_applies q f k).0; ranked = λ f k. (cycle_applies q f k).1; all = cycle_all q }
+
+same_name_applies : (q : Asked) (f : ResolveFault) → SameNameFault (scene_of q) f → Applies q f × (rank f ≡ 4)
+same_name_applies q (SameName reader name) k = (k, refl)
+same_name_applies q f k = absurd k
+
+same_name_all : (q : Asked) (f : ResolveFault) → Applies q f → rank f ≡ 4 → SameNameFault (scene_of q) f
+same_name_all q (SameName reader name) a e = a
+same_name_all q f a e = absurd (omega arith)
+
+pub same_name_kind : (q : Asked) → IsKind q 4 (SameNameFault (scene_of q))
+same_name_kind q = record { applies = λ f k. (same_name_applies q f k).0; ranked = λ f k. (same_name_applies q f k).1; all = same_name_all q }
+
+same_package_applies : (q : Asked) (f : ResolveFault) → SamePackageFault (scene_of q) f → Applies q f × (rank f ≡ 5)
+same_package_applies q (SamePackage reader p one other) k = (k, refl)
+same_package_applies q f k = absurd k
+
+same_package_all : (q : Asked) (f : ResolveFault) → Applies q f → rank f ≡ 5 → SamePackageFault (scene_of q) f
+same_package_all q (SamePackage reader p one other) a e = a
+same_package_all q f a e = absurd (omega arith)
+
+pub same_package_kind : (q : Asked) → IsKind q 5 (SamePackageFault (scene_of q))
+same_package_kind q = record { applies = λ f k. (same_package_applies q f k).0; ranked = λ f k. (same_package_applies q f k).1; all = same_package_all q }
+
+own_package_applies : (q : Asked) (f : ResolveFault) → OwnPackageFault (scene_of q) f → Applies q f × (rank f ≡ 6)
+own_package_applies q (OwnPackage reader p other) k = (k, refl)
+own_package_applies q f k = absurd k
+
+own_package_all : (q : Asked) (f : ResolveFault) → Applies q f → rank f ≡ 6 → OwnPackageFault (scene_of q) f
+own_package_all q (OwnPackage reader p other) a e = a
+own_package_all q f a e = absurd (omega arith)
+
+pub own_package_kind : (q : Asked) → IsKind q 6 (OwnPackageFault (scene_of q))
+own_package_kind q = record { applies = λ f k. (own_package_applies q f k).0; ranked = λ f k. (own_package_applies q f k).1; all = own_package_all q }
+
+service_applies : (q : Asked) (f : ResolveFault) → ServiceFault (scene_of q) f → Applies q f × (rank f ≡ 7)
+service_applies q (ServicePackage name service) k = (k, refl)
+service_applies q f k = absurd k
+
+service_all : (q : Asked) (f : ResolveFault) → Applies q f → rank f ≡ 7 → ServiceFault (scene_of q) f
+service_all q (ServicePackage name service) a e = a
+service_all q f a e = absurd (omega arith)
+
+pub service_kind : (q : Asked) → IsKind q 7 (ServiceFault (scene_of q))
+service_kind q = record { applies = λ f k. (service_applies q f k).0; ranked = λ f k. (service_applies q f k).1; all = service_all q }
+
+-- ---- the kinds that have no fields
+
+alone_least : (A : Type 0) (f : ResolveFault) → A → IsLeast fault_cmp (λ g. A × (f ≡ g)) f
+alone_least A f a = record { has = (a, refl); least = λ g k l. not_below_itself fault_cmp fault_total f (subst (λ h. fault_cmp h f ≡ Less) (sym k.1) l) }
+
+pub no_parents_first : (q : Asked) → q.parents ≡ [] → Resolves q (Err NoParents)
+no_parents_first q e = first_refusal q 0 (NoParentsFault q) (no_parents_kind q) (none_at_first q) NoParents (alone_least (q.parents ≡ []) NoParents e)
+
+pub too_many_first : (q : Asked) → NoneBefore q 2 → IsTooMany q → Resolves q (Err TooMany)
+too_many_first q before k = first_refusal q 2 (TooManyFault q) (too_many_kind q) before TooMany (alone_least (IsTooMany q) TooMany k)
+
+-- ---- what is bound
+
+enumerated_bound : (w : Scene) (n : ℕ) (s : Site) → Enumerated w n s → IsBound w s
+enumerated_bound w zero s e = ([], (e.0, inl e.1, tt))
+enumerated_bound w (suc n) s (found, (p, e, needs)) =
+    let before = enumerated_bound w n p e in
+    (p ∷ before.0, (found, inr (inl (p, contains_head p before.0, needs)), before.1))
+
+member_bound_by : (b : Bool) (w : Scene) (s : Site) → IsMemberBy b w s → IsBound w s
+member_bound_by true w s m = m
+member_bound_by false w s (n, e) = enumerated_bound w n s e
+
+pub member_bound : (w : Scene) (s : Site) → IsMember w s → IsBound w s
+member_bound w s m = member_bound_by w.binds w s m
+
+pub justified_by_members : (q : Asked) (g : Graph) → AreModules q g.modules → AreJustified q g
+justified_by_members q g modules o c = member_bound (scene_of q) (new_site q o) (modules.only o c)
