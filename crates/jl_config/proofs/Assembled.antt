@@ -195,3 +195,97 @@ member_bound w s m = member_bound_by w.binds w s m
 
 pub justified_by_members : (q : Asked) (g : Graph) → AreModules q g.modules → AreJustified q g
 justified_by_members q g modules o c = member_bound (scene_of q) (new_site q o) (modules.only o c)
+
+-- ---- members by their places, in order
+
+module _ {X Y : Type 0} (h : X → Option Y) where
+  kept : (xs : List X) (x : X) (y : Y) → Contains xs x → h x ≡ Some y → Contains (filter_map h xs) y
+  kept [] x y c e = contains_nothing x c
+  kept (w ∷ xs) x y c e = ⊎_elim (λ f. here (h w) (ap h f ∙ e)) (λ k. later (h w) (kept xs x y k e)) (contains_cases w x xs c)
+    where
+      here : (o : Option Y) → o ≡ Some y → Contains (cons_option o (filter_map h xs)) y
+      here None f = absurd cc
+      here (Some z) f = let g : z ≡ y = cc in subst (λ v. Contains (z ∷ filter_map h xs) v) g (contains_head z (filter_map h xs))
+
+      later : (o : Option Y) → Contains (filter_map h xs) y → Contains (cons_option o (filter_map h xs)) y
+      later None k = k
+      later (Some z) k = contains_tail z y (filter_map h xs) k
+
+  kept_from : (xs : List X) (y : Y) → Contains (filter_map h xs) y → (x : X) × Contains xs x × (h x ≡ Some y)
+  kept_from [] y c = contains_nothing y c
+  kept_from (w ∷ xs) y c = by (λ k. let r = kept_from xs y k in (r.0, contains_tail w r.0 xs r.1, r.2)) (h w) refl c
+    where
+      by : (Contains (filter_map h xs) y → (x : X) × Contains (w ∷ xs) x × (h x ≡ Some y)) → (o : Option Y) → h w ≡ o → Contains (cons_option o (filter_map h xs)) y → (x : X) × Contains (w ∷ xs) x × (h x ≡ Some y)
+      by more None e k = more k
+      by more (Some z) e k = ⊎_elim (λ f. (w, contains_head w xs, e ∙ ap Some f)) more (contains_cases z y (filter_map h xs) k)
+
+  kept_long : (xs : List X) → AllByRecursion (λ x. (y : Y) × (h x ≡ Some y)) xs → length (filter_map h xs) ≡ length xs
+  kept_long [] a = refl
+  kept_long (w ∷ xs) a = by (kept_long xs a.1) (h w) a.0.0 a.0.1
+    where
+      by : length (filter_map h xs) ≡ length xs → (o : Option Y) (y : Y) → o ≡ Some y → length (cons_option o (filter_map h xs)) ≡ length (w ∷ xs)
+      by more None y e = absurd cc
+      by more (Some z) y e = omega arith
+
+item_below : {X : Type 0} (xs : List X) (p : ℕ) → p < length xs → (x : X) × (slice_get xs p ≡ Some x)
+item_below [] p h = absurd (omega arith)
+item_below (x ∷ xs) zero h = (x, refl)
+item_below (x ∷ xs) (suc p) h = item_below xs p (omega arith)
+
+sites_long : (w : Scene) (ps : List ℕ) → All (λ p. p < length w.sites) ps → length (sites_at w ps) ≡ length ps
+sites_long w ps a = kept_long (slice_get w.sites) ps (each_from_members (λ p. (s : Site) × (slice_get w.sites p ≡ Some s)) ps (λ p c. item_below w.sites p (All-contains (λ k. k < length w.sites) ps p a c)))
+
+members_at : (w : Scene) (ps : List ℕ) → AreMembers w ps → (s : Site) → Contains (sites_at w ps) s → IsMember w s
+members_at w ps m s c = let k = kept_from (slice_get w.sites) ps s c in (m.only k.0 s k.1 k.2).0
+
+at_members : (w : Scene) (ps : List ℕ) → AreMembers w ps → (s : Site) → IsMember w s → Contains (sites_at w ps) s
+at_members w ps m s k = let r = m.all s k in kept (slice_get w.sites) ps r.0 s r.1 r.2
+
+-- the set is too large exactly where there are more places than that
+pub large_by_places : (w : Scene) (ps : List ℕ) → AreMembers w ps → most < length ps → IsLarge w
+large_by_places w ps m h =
+    let long : length (sites_at w ps) ≡ length ps = sites_long w ps m.within in
+    (sites_at w ps, m.rise, All-from_recursion (IsMember w) (sites_at w ps) (each_from_members (IsMember w) (sites_at w ps) (members_at w ps m)), more (length (sites_at w ps)) (length ps) long h)
+  where
+    more : (a b : ℕ) → a ≡ b → most < b → most < a
+    more a b e l = omega arith
+
+pub not_large_by_places : (w : Scene) (ps : List ℕ) → AreMembers w ps → length ps ≤ most → IsLarge w → ⊥
+not_large_by_places w ps m h large =
+    let long : length (sites_at w ps) ≡ length ps = sites_long w ps m.within in
+    let shorter : length large.0 ≤ length (sites_at w ps) = no_longer site_cmp sites_total large.0 (sites_at w ps) large.1 m.rise (λ s c. at_members w ps m s (All-contains (IsMember w) large.0 s large.2 c)) in
+    few (length large.0) (length (sites_at w ps)) (length ps) shorter long h large.3
+  where
+    few : (a b c : ℕ) → a ≤ b → b ≡ c → c ≤ most → most < a → ⊥
+    few a b c h e k l = omega arith
+
+-- ---- the modules, copied in the order of the places
+
+abbrev pub observed_of : Site → Observed
+observed_of s = s.observed
+
+above_mapped : (s : Site) (ss : List Site) → AllByRecursion (λ t. site_cmp s t ≡ Less) ss → AllByRecursion (λ o. module_cmp s.observed o ≡ Less) (map observed_of ss)
+above_mapped s [] h = tt
+above_mapped s (t ∷ ss) h = (h.0, above_mapped s ss h.1)
+
+rises_mapped : (ss : List Site) → RisesBy site_cmp ss → RisesBy module_cmp (map observed_of ss)
+rises_mapped [] up = tt
+rises_mapped (s ∷ ss) up = (above_mapped s ss up.0, rises_mapped ss up.1)
+
+mapped : (ss : List Site) (s : Site) → Contains ss s → Contains (map observed_of ss) s.observed
+mapped [] s c = contains_nothing s c
+mapped (t ∷ ss) s c = ⊎_elim (λ e. subst (λ v. Contains (t.observed ∷ map observed_of ss) (observed_of v)) e (contains_head t.observed (map observed_of ss))) (λ k. contains_tail t.observed s.observed (map observed_of ss) (mapped ss s k)) (contains_cases t s ss c)
+
+mapped_from : (ss : List Site) (o : Observed) → Contains (map observed_of ss) o → (s : Site) × Contains ss s × (s.observed ≡ o)
+mapped_from [] o c = contains_nothing o c
+mapped_from (t ∷ ss) o c = ⊎_elim (λ e. (t, contains_head t ss, e)) (λ k. let r = mapped_from ss o k in (r.0, contains_tail t r.0 ss r.1, r.2)) (contains_cases t.observed o (map observed_of ss) c)
+
+pub modules_by_places : (q : Asked) (ps : List ℕ) (os : List Observed) → AreMembers (scene_of q) ps → os ≡ map observed_of (sites_at (scene_of q) ps) → AreModules q os
+modules_by_places q ps os m e = subst (AreModules q) (sym e) (record {
+  rise = rises_mapped (sites_at (scene_of q) ps) m.rise;
+  only = λ o c.
+      let r = mapped_from (sites_at (scene_of q) ps) o c in
+      let here : IsMember (scene_of q) r.0 = members_at (scene_of q) ps m r.0 r.1 in
+      subst (IsMember (scene_of q)) (module_here q r.0 o here r.2) here;
+  all = λ s k. mapped (sites_at (scene_of q) ps) s (at_members (scene_of q) ps m s k);
+})
