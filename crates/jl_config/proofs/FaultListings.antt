@@ -13,42 +13,12 @@ use Rattle.jl_config.specs.Located.{Scene, site_name, located}
 use Rattle.jl_config.specs.Members.{is_followed, Needs, Uses, IsProvidedBy, IsMember, Reads}
 use Rattle.jl_config.specs.Orders.{site_cmp}
 use Rattle.jl_config.specs.Refusals.{IsMissing, IsLarge, most, IsSameName, ReachesBy, Exports, Gets, Holds, IsSamePackage, IsOwnPackage, Sees, IsServicePackage}
+use Rattle.jl_config.proofs.Entries.{decided_in, needed, exported, services, decided_config}
 use Rattle.jl_config.proofs.FaultOrder.{sites_total, names_exact}
 use Rattle.jl_config.proofs.Listings.{Listing, Decided, decided_both, decided_either, decided_not, decided_same, decided_true, decided_name, decided_number, decided_less, decided_none, decided_contains, decided_some, listing_each, listing_where, listing_same, listing_either, listing_if, listing_map, listing_items}
 use Rattle.jl_config.proofs.Sorted.{Rising, sorted, no_longer}
 use Rattle.jl_config.proofs.Listed.{Lists}
 use Rattle.jl_config.proofs.FoundPlaces.{one_of_name}
-
--- ---- what modules declare
-
-decided_in : (P : List ℕ → Type 0) → Listing P → (name : List ℕ) → Decided (P name)
-decided_in P l name = decided_same (Contains l.items name) (P name) (l.only name) (l.all name) (decided_contains l.items name)
-
-decided_reaches : (to : Option (List (List ℕ))) (reader : List ℕ) → Decided (ReachesBy to reader)
-decided_reaches None reader = inl tt
-decided_reaches (Some names) reader = decided_contains names reader
-
-needed : (s : Site) → Listing (Needs s)
-needed s =
-    listing_same (λ name. (r : Requires) × Contains s.observed.declaration.required r × (IsTrue (is_followed r) × (r.name ≡ name))) (Needs s)
-    (λ name k. (k.0, k.1, k.2.0, k.2.1)) (λ name k. (k.0, k.1, (k.2, k.3)))
-    (listing_each (λ (r : Requires) (name : List ℕ). IsTrue (is_followed r) × (r.name ≡ name)) (Contains s.observed.declaration.required) (listing_items s.observed.declaration.required)
-    (λ r c. listing_if (IsTrue (is_followed r)) r.name (decided_true (is_followed r))))
-
-exported : (s : Site) (reader : List ℕ) → Listing (λ p. Exports s p reader)
-exported s reader =
-    listing_same (λ p. (g : Grant) × Contains s.observed.declaration.exports g × (ReachesBy g.to reader × (g.«package» ≡ p))) (λ p. Exports s p reader)
-    (λ p k. (k.0, k.1, k.2.1, k.2.0)) (λ p k. (k.0, k.1, (k.3, k.2)))
-    (listing_each (λ (g : Grant) (p : List ℕ). ReachesBy g.to reader × (g.«package» ≡ p)) (Contains s.observed.declaration.exports) (listing_items s.observed.declaration.exports)
-    (λ g c. listing_if (ReachesBy g.to reader) g.«package» (decided_reaches g.to reader)))
-
-services : (s : Site) → Listing (λ service. Uses s service ⊎ IsProvidedBy s service)
-services s =
-    listing_either (Uses s) (IsProvidedBy s) (listing_items s.observed.declaration.uses)
-    (listing_map (Contains s.observed.declaration.provides) (λ (p : Provides). p.service) (listing_items s.observed.declaration.provides))
-
-pub decided_config : (a b : ConfigId) → Decided (a ≡ b)
-decided_config a b = decided_same (a.0 ≡ b.0) (a ≡ b) (λ e i. record { 0 = e i }) (λ e. ap (λ (c : ConfigId). c.0) e) (decided_number a.0 b.0)
 
 -- ---- what is not there
 

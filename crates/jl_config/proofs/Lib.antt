@@ -1,6 +1,7 @@
 pub mod Always
 pub mod Assembled
 pub mod Circles
+pub mod Entries
 pub mod FaultListings
 pub mod FaultOrder
 pub mod FoundPlaces
