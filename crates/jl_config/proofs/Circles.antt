@@ -10,6 +10,7 @@ use Rattle.jl_config.specs.Located.{Scene, site_name, located}
 use Rattle.jl_config.specs.Members.{IsMember}
 use Rattle.jl_config.specs.Places.{place_named, AreMarks}
 use Rattle.jl_config.specs.Refusals.{HasEdge, Leads, IsOnCircle}
+use Rattle.jl_config.proofs.PlaceRows.{row_at, from_map, map_long, all_of}
 use Rattle.jl_config.proofs.FoundPlaces.{Place, member_found, place_found, place_shows, found_name, within_length, decided_marked, members_listed}
 use Rattle.jl_config.proofs.Listings.{Listing, Decided, decided_same, listing_each, listing_where, listing_same, listing_map, listing_option, listing_items}
 
@@ -94,23 +95,6 @@ edge_places w marks a =
     (λ q k. (k.0, k.1, k.2.0, k.2.1)) (λ q k. (k.0, k.1, (k.2, k.3)))
     (listing_each (λ (r : Requires) (q : ℕ). (place_named r.name w.sites ≡ Some q) × (slice_get marks q ≡ Some true)) (Contains a.observed.declaration.required) (listing_items a.observed.declaration.required)
     (λ r c. listing_where (λ q. place_named r.name w.sites ≡ Some q) (λ q. slice_get marks q ≡ Some true) (listing_option (place_named r.name w.sites)) (λ q e. decided_marked (slice_get marks q))))
-
--- the row of a place
-row_at : {X Y : Type 0} (f : X → Y) (xs : List X) (p : ℕ) (x : X) (d : Y) → slice_get xs p ≡ Some x → get_or (map f xs) p d ≡ f x
-row_at f [] p x d e = absurd cc
-row_at f (w ∷ xs) zero x d e = let g : w ≡ x = cc in ap f g
-row_at f (w ∷ xs) (suc p) x d e = row_at f xs p x d e
-
-from_map : {X Y : Type 0} (f : X → Y) (xs : List X) (y : Y) → Contains (map f xs) y → (x : X) × (f x ≡ y)
-from_map f [] y c = contains_nothing y c
-from_map f (w ∷ xs) y c = ⊎_elim (λ e. (w, e)) (λ k. from_map f xs y k) (contains_cases (f w) y (map f xs) c)
-
-map_long : {X Y : Type 0} (f : X → Y) (xs : List X) → length (map f xs) ≡ length xs
-map_long f [] = refl
-map_long f (x ∷ xs) = let h = map_long f xs in omega arith
-
-all_of : {X : Type 0} (P : X → Type 0) (xs : List X) → ((x : X) → Contains xs x → P x) → All P xs
-all_of P xs h = All-from_recursion P xs (each_from_members P xs h)
 
 abbrev edge_row : Scene → List Bool → Site → List ℕ
 edge_row w marks a = (edge_places w marks a).items

@@ -8,6 +8,7 @@ pub mod FoundPlaces
 pub mod Listed
 pub mod Listings
 pub mod MemberMarks
+pub mod PlaceRows
 pub mod ReadMarks
 pub mod Sorted
 pub mod Unique

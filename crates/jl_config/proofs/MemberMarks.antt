@@ -4,11 +4,13 @@ use Rattle.std.proofs.lemmas.List.Elements.{All-from_recursion}
 use Rattle.jl_logic.proofs.Rising.{contains_head, contains_tail, contains_cases, contains_nothing, each_from_members}
 use Rattle.jl_closure.specs.Reached.{Follows, Chain, IsReached, AreMarksOf}
 use Rattle.jl_closure.proofs.Always.{marks_exist}
+use Rattle.jl_prim.specs.declared.declaration.Provides.{Provides}
 use Rattle.jl_config.specs.declared.site.Site.{Site}
 use Rattle.jl_config.specs.Located.{Scene, site_name, located, is_here}
 use Rattle.jl_config.specs.Members.{Needs, Uses, IsProvidedBy, IsFound, Enumerated, IsAbove, IsUsed, IsCaused, IsJustified, IsBound, IsMemberBy, IsMember}
 use Rattle.jl_config.specs.Places.{place_named, AreMarks}
 use Rattle.jl_config.proofs.Entries.{decided_in, needed}
+use Rattle.jl_config.proofs.PlaceRows.{row_at, from_map, map_long, all_of}
 use Rattle.jl_config.proofs.FoundPlaces.{Place, member_found, place_found, place_shows, within_length}
 use Rattle.jl_config.proofs.Listings.{Listing, Decided, decided_both, decided_either, decided_same, decided_true, decided_number, decided_contains, decided_some, listing_where, listing_same, listing_map, listing_items, listing_below}
 
@@ -193,5 +195,138 @@ module _ (w : Scene) (next : List (List ℕ)) (rows : AreMemberRows w next) (sta
         into p s e (subst (λ q. slice_get raw q ≡ Some true) same (marks.all k.0 k.2)) (member_found w s m).by_finder;
   }
 
+-- ---- rows, starts and marks exist
+
+decided_item : (ss : List Site) (q : ℕ) (P : Site → Type 0) → ((t : Site) → slice_get ss q ≡ Some t → Decided (P t)) → Decided ((t : Site) × (slice_get ss q ≡ Some t) × P t)
+decided_item ss q P d = by (slice_get ss q) refl
+  where
+    by : (o : Option Site) → slice_get ss q ≡ o → Decided ((t : Site) × (slice_get ss q ≡ Some t) × P t)
+    by None e = inr (λ k. let none : None ≡ Some k.0 = sym e ∙ k.1 in absurd cc)
+    by (Some t) e = decided_same (P t) ((u : Site) × (slice_get ss q ≡ Some u) × P u) (λ k. (t, e, k)) (λ k. let same : k.0 ≡ t = cc in subst P same k.2) (d t e)
+
+decided_place : (o : Option ℕ) (q : ℕ) → Decided (o ≡ Some q)
+decided_place None q = inr (λ e. absurd cc)
+decided_place (Some p) q = decided_same (p ≡ q) (Some p ≡ Some q) (λ e. ap Some e) (λ e. cc) (decided_number p q)
+
+decided_found : (w : Scene) (q : ℕ) (t : Site) → slice_get w.sites q ≡ Some t → Decided (IsFoundAt w q t)
+decided_found w q t e =
+    decided_same (IsTrue (is_here w t) × (place_named (site_name t) w.sites ≡ Some q)) (IsFoundAt w q t)
+    (λ k. record { at = e; by_finder = k.0; first = k.1 }) (λ k. (k.by_finder, k.first))
+    (decided_both (IsTrue (is_here w t)) (place_named (site_name t) w.sites ≡ Some q) (decided_true (is_here w t)) (decided_place (place_named (site_name t) w.sites) q))
+
+decided_provided : (t : Site) (service : List ℕ) → Decided (IsProvidedBy t service)
+decided_provided t service =
+    decided_in (IsProvidedBy t) (listing_map (Contains t.observed.declaration.provides) (λ (p : Provides). p.service) (listing_items t.observed.declaration.provides)) service
+
+decided_serves : (a t : Site) → Decided ((service : List ℕ) × Uses a service × IsProvidedBy t service)
+decided_serves a t =
+    decided_same ((service : List ℕ) × (Uses a service × IsProvidedBy t service)) ((service : List ℕ) × Uses a service × IsProvidedBy t service)
+    (λ k. (k.0, k.1.0, k.1.1)) (λ k. (k.0, (k.1, k.2)))
+    (decided_some (λ service. Uses a service × IsProvidedBy t service)
+    (listing_where (Uses a) (IsProvidedBy t) (listing_items a.observed.declaration.uses) (λ service c. decided_provided t service)))
+
+decided_brings : (w : Scene) (a t : Site) → Decided (BringsIn w a t)
+decided_brings w a t =
+    decided_either (IsTrue (is_here w a) × Needs a (site_name t)) (IsTrue w.binds × ((service : List ℕ) × Uses a service × IsProvidedBy t service))
+    (decided_both (IsTrue (is_here w a)) (Needs a (site_name t)) (decided_true (is_here w a)) (decided_in (Needs a) (needed a) (site_name t)))
+    (decided_both (IsTrue w.binds) ((service : List ℕ) × Uses a service × IsProvidedBy t service) (decided_true w.binds) (decided_serves a t))
+
+decided_next : (w : Scene) (a : Site) (q : ℕ) → Decided (IsNextPlace w a q)
+decided_next w a q =
+    decided_same ((t : Site) × (slice_get w.sites q ≡ Some t) × (IsFoundAt w q t × BringsIn w a t)) (IsNextPlace w a q)
+    (λ k. (k.0, k.2.0, k.2.1)) (λ k. (k.0, k.1.at, (k.1, k.2)))
+    (decided_item w.sites q (λ t. IsFoundAt w q t × BringsIn w a t) (λ t e. decided_both (IsFoundAt w q t) (BringsIn w a t) (decided_found w q t e) (decided_brings w a t)))
+
+decided_start : (w : Scene) (q : ℕ) → Decided (IsStartPlace w q)
+decided_start w q =
+    decided_item w.sites q (λ t. (IsFoundAt w q t × Contains w.roots (site_name t)) ⊎ (IsTrue w.binds × (is_here w t ≡ false))) (λ t e.
+    decided_either (IsFoundAt w q t × Contains w.roots (site_name t)) (IsTrue w.binds × (is_here w t ≡ false))
+    (decided_both (IsFoundAt w q t) (Contains w.roots (site_name t)) (decided_found w q t e) (decided_contains w.roots (site_name t)))
+    (decided_both (IsTrue w.binds) (is_here w t ≡ false) (decided_true w.binds) (decided_away (is_here w t))))
+  where
+    decided_away : (b : Bool) → Decided (b ≡ false)
+    decided_away true = inr (λ e. absurd cc)
+    decided_away false = inl refl
+
+-- of the places in sight those that have a property
+places_with : (w : Scene) (P : ℕ → Type 0) → ((q : ℕ) → P q → q < length w.sites) → ((q : ℕ) → Decided (P q)) → Listing P
+places_with w P within d =
+    listing_same (λ q. (q < length w.sites) × P q) P (λ q k. k.1) (λ q k. (within q k, k))
+    (listing_where (λ q. q < length w.sites) P (listing_below (length w.sites)) (λ q h. d q))
+
+next_places : (w : Scene) (a : Site) → Listing (IsNextPlace w a)
+next_places w a = places_with w (IsNextPlace w a) (λ q k. within_length w.sites q k.0 k.1.at) (decided_next w a)
+
+start_places : (w : Scene) → Listing (IsStartPlace w)
+start_places w = places_with w (IsStartPlace w) (λ q k. within_length w.sites q k.0 k.1) (decided_start w)
+
+abbrev row_of : Scene → Site → List ℕ
+row_of w a = (next_places w a).items
+
+abbrev rows_of : Scene → List (List ℕ)
+rows_of w = map (row_of w) w.sites
+
+starts_right : (w : Scene) → AreMemberStarts w (start_places w).items
+starts_right w = record { only = (start_places w).only; all = (start_places w).all }
+
+rows_right : (w : Scene) → AreMemberRows w (rows_of w)
+rows_right w = record {
+  one_each = map_long (row_of w) w.sites;
+  only = λ p a e q f. (next_places w a).only q (subst (λ row. Contains row q) (row_at (row_of w) w.sites p a [] e) f);
+  all = λ p a e q k. subst (λ row. Contains row q) (sym (row_at (row_of w) w.sites p a [] e)) ((next_places w a).all q k);
+}
+
+places_within : (w : Scene) (P : ℕ → Type 0) (l : Listing P) → ((q : ℕ) → P q → (t : Site) × (slice_get w.sites q ≡ Some t)) → All (λ q. q < length (rows_of w)) l.items
+places_within w P l shows = all_of (λ q. q < length (rows_of w)) l.items (λ q c.
+    let k = shows q (l.only q c) in
+    let lt : q < length w.sites = within_length w.sites q k.0 k.1 in
+    let long : length (rows_of w) ≡ length w.sites = map_long (row_of w) w.sites in
+    omega arith)
+
+rows_inside : (w : Scene) → All (λ row. All (λ q. q < length (rows_of w)) row) (rows_of w)
+rows_inside w = all_of (λ row. All (λ q. q < length (rows_of w)) row) (rows_of w) (λ row c.
+    let a = from_map (row_of w) w.sites row c in
+    subst (All (λ q. q < length (rows_of w))) a.1 (places_within w (IsNextPlace w a.0) (next_places w a.0) (λ q k. (k.0, k.1.at))))
+
+starts_inside : (w : Scene) → All (λ q. q < length (rows_of w)) (start_places w).items
+starts_inside w = places_within w (IsStartPlace w) (start_places w) (λ q k. (k.0, k.1))
+
+-- the marks of modules that a finder observes
+abbrev marks_here : Scene → List Site → List Bool → List Bool
+marks_here w [] raw = []
+marks_here w (s ∷ ss) [] = []
+marks_here w (s ∷ ss) (m ∷ raw) = (m && is_here w s) ∷ marks_here w ss raw
+
+here_long : (w : Scene) (ss : List Site) (raw : List Bool) → length raw ≡ length ss → length (marks_here w ss raw) ≡ length ss
+here_long w [] raw e = refl
+here_long w (s ∷ ss) [] e = absurd (omega arith)
+here_long w (s ∷ ss) (m ∷ raw) e = let h = here_long w ss raw (omega arith) in omega arith
+
+here_out : (w : Scene) (ss : List Site) (raw : List Bool) (p : ℕ) (s : Site) → slice_get ss p ≡ Some s → slice_get (marks_here w ss raw) p ≡ Some true → (slice_get raw p ≡ Some true) × IsTrue (is_here w s)
+here_out w [] raw p s e h = absurd cc
+here_out w (t ∷ ss) [] p s e h = absurd cc
+here_out w (t ∷ ss) (m ∷ raw) zero s e h = by m (is_here w t) refl h
+  where
+    by : (a b : Bool) → is_here w t ≡ b → Some (a && b) ≡ Some true → (Some a ≡ Some true) × IsTrue (is_here w s)
+    by true true f g = let same : t ≡ s = cc in (refl, ap (is_here w) (sym same) ∙ f)
+    by true false f g = absurd cc
+    by false b f g = absurd cc
+here_out w (t ∷ ss) (m ∷ raw) (suc p) s e h = here_out w ss raw p s e h
+
+here_in : (w : Scene) (ss : List Site) (raw : List Bool) (p : ℕ) (s : Site) → slice_get ss p ≡ Some s → slice_get raw p ≡ Some true → IsTrue (is_here w s) → slice_get (marks_here w ss raw) p ≡ Some true
+here_in w [] raw p s e r h = absurd cc
+here_in w (t ∷ ss) [] p s e r h = absurd cc
+here_in w (t ∷ ss) (m ∷ raw) zero s e r h =
+    let same : t ≡ s = cc in
+    let mark : m ≡ true = cc in
+    let here : is_here w t ≡ true = ap (is_here w) same ∙ h in
+    λ i. Some (mark i && here i)
+here_in w (t ∷ ss) (m ∷ raw) (suc p) s e r h = here_in w ss raw p s e r h
+
 pub members_exist : (w : Scene) → (marks : List Bool) × AreMarks w marks
-members_exist w = ?
+members_exist w =
+    let raw = marks_exist (rows_of w) (start_places w).items (rows_inside w) (starts_inside w) in
+    let long : length raw.0 ≡ length w.sites = raw.1.one_each ∙ map_long (row_of w) w.sites in
+    (marks_here w w.sites raw.0,
+    marks_right w (rows_of w) (rows_right w) (start_places w).items (starts_right w) raw.0 raw.1 (marks_here w w.sites raw.0)
+    (here_long w w.sites raw.0 long) (here_out w w.sites raw.0) (here_in w w.sites raw.0))
