@@ -19,7 +19,7 @@ use Rattle.jl_config.specs.Refusals.{IsLarge, most, Applies, rank, fields, field
 use Rattle.jl_config.specs.Resolves.{Resolves, AreModules, AreJustified, new_site}
 use Rattle.jl_config.proofs.FaultOrder.{fault_total, sites_total}
 use Rattle.jl_config.proofs.Always.{IsTooMany, module_here}
-use Rattle.jl_config.proofs.Sorted.{not_below_itself, no_longer}
+use Rattle.jl_config.proofs.RisingLists.{not_below_itself, no_longer}
 use Rattle.jl_config.proofs.Unique.{told_by_least}
 
 -- ---- kinds of refusals, in their order

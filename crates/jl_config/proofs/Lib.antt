@@ -1,7 +1,7 @@
 pub mod Always
 pub mod Assembled
 pub mod Circles
-pub mod Entries
+pub mod DeclaredLists
 pub mod FaultListings
 pub mod FaultOrder
 pub mod FoundPlaces
@@ -10,5 +10,5 @@ pub mod Listings
 pub mod MemberMarks
 pub mod PlaceRows
 pub mod ReadMarks
-pub mod Sorted
+pub mod RisingLists
 pub mod Unique

@@ -9,7 +9,7 @@ use Rattle.jl_config.specs.declared.site.Site.{Site}
 use Rattle.jl_config.specs.Located.{Scene, site_name, located, is_here}
 use Rattle.jl_config.specs.Members.{Needs, Uses, IsProvidedBy, IsFound, Enumerated, IsAbove, IsUsed, IsCaused, IsJustified, IsBound, IsMemberBy, IsMember}
 use Rattle.jl_config.specs.Places.{place_named, AreMarks}
-use Rattle.jl_config.proofs.Entries.{decided_in, needed}
+use Rattle.jl_config.proofs.DeclaredLists.{decided_in, needed}
 use Rattle.jl_config.proofs.PlaceRows.{row_at, from_map, map_long, all_of}
 use Rattle.jl_config.proofs.FoundPlaces.{Place, member_found, place_found, place_shows, within_length}
 use Rattle.jl_config.proofs.Listings.{Listing, Decided, decided_both, decided_either, decided_same, decided_true, decided_number, decided_contains, decided_some, listing_where, listing_same, listing_map, listing_items, listing_below}
