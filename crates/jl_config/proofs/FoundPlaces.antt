@@ -98,4 +98,3 @@ reads_listed w a ps r =
     listing_same (λ b. (p : ℕ) × Contains ps p × (slice_get w.sites p ≡ Some b)) (Reads w a)
     (λ b k. (r.only k.0 b k.1 k.2).0) (λ b k. r.all b k)
     (listing_each (λ p b. slice_get w.sites p ≡ Some b) (Contains ps) (listing_items ps) (λ p c. listing_option (slice_get w.sites p)))
-

@@ -326,7 +326,8 @@ here_in w (t ∷ ss) (m ∷ raw) (suc p) s e r h = here_in w ss raw p s e r h
 pub members_exist : (w : Scene) → (marks : List Bool) × AreMarks w marks
 members_exist w =
     let raw = marks_exist (rows_of w) (start_places w).items (rows_inside w) (starts_inside w) in
-    let long : length raw.0 ≡ length w.sites = raw.1.one_each ∙ map_long (row_of w) w.sites in
-    (marks_here w w.sites raw.0,
-    marks_right w (rows_of w) (rows_right w) (start_places w).items (starts_right w) raw.0 raw.1 (marks_here w w.sites raw.0)
-    (here_long w w.sites raw.0 long) (here_out w w.sites raw.0) (here_in w w.sites raw.0))
+    let long : length raw.0 ≡ length w.sites = raw.1.one_each ∙ map_long (row_of w) w.sites in (
+      marks_here w w.sites raw.0,
+      marks_right w (rows_of w) (rows_right w) (start_places w).items (starts_right w) raw.0 raw.1 (marks_here w w.sites raw.0)
+          (here_long w w.sites raw.0 long) (here_out w w.sites raw.0) (here_in w w.sites raw.0),
+    )

@@ -1,5 +1,4 @@
 use Rattle.jl_config.proofs.Unique as unique
-use Rattle.jl_config.proofs.Assembled as assembled
 use Rattle.jl_config.proofs.law.resolves_once.Goals as goal
 
 pub returns : goal.returns
