@@ -1,5 +1,5 @@
 -- A resolution always has an answer: of the refusals that apply the least, or the graph; so it is refused where one applies.
-use Rattle.std.proofs.Common.{◌≡◌, ◌≢◌, ◌⊎◌, ◌↔◌, ◌≤◌, ◌<◌, ◌+◌, ℕ, List, [], ◌∷◌, length, inl, inr, ⊎_elim, refl, sym, ◌∙◌, ap, subst, Contains, Option, Some, None, Ordering, Less, Equal, Greater, Result, Ok, Err, IsTrue, eqb-true}
+use Rattle.std.proofs.Common.{◌≡◌, ◌≢◌, ◌⊎◌, ◌≤◌, ◌+◌, ℕ, List, [], ◌∷◌, length, inl, inr, refl, sym, ◌∙◌, ap, subst, Option, Equal, Result, Ok, Err, eqb-true}
 use Rattle.jl_prim.specs.declared.numbers.ConfigId.{ConfigId}
 use Rattle.jl_prim.specs.declared.declaration.Observed.{Observed}
 use Rattle.jl_logic.specs.Order.{IsLeast}
@@ -9,7 +9,7 @@ use Rattle.jl_config.specs.declared.fault.ResolveFault.TheVariants.{NoParents, N
 use Rattle.jl_config.specs.declared.site.Site.{Site}
 use Rattle.jl_config.specs.Graphs.{Graph}
 use Rattle.jl_config.specs.Laws.{ResolvesAlways, RefusesWhereOneHolds}
-use Rattle.jl_config.specs.Located.{Asked, Scene, scene_of, id_of, name_of, site_name, is_here}
+use Rattle.jl_config.specs.Located.{Asked, Scene, scene_of, id_of, name_of, site_name}
 use Rattle.jl_config.specs.Members.{IsMember, Reads}
 use Rattle.jl_config.specs.Orders.{module_cmp, read_cmp}
 use Rattle.jl_config.specs.Refusals.{IsMissing, IsLarge, most, IsOnCircle, IsSameName, IsSamePackage, IsOwnPackage, IsServicePackage, Applies, fault_cmp}

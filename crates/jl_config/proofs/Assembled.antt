@@ -1,9 +1,9 @@
 -- A resolution put together of the searches for refusals of one kind each, and of the modules and reads.
-use Rattle.std.proofs.Common.{◌≡◌, ◌≢◌, ◌⊎◌, ◌<◌, ◌≤◌, ◌+◌, ℕ, zero, suc, ◌-◌, List, [], ◌∷◌, length, map, inl, inr, ⊎_elim, refl, sym, ◌∙◌, ap, subst, Contains, All, Option, Some, None, Bool, true, false, Ordering, Less, Equal, Greater, nat_cmp, Result, Ok, Err, slice_get, filter_map, arith}
+use Rattle.std.proofs.Common.{◌≡◌, ◌≢◌, ◌⊎◌, ◌<◌, ◌≤◌, ℕ, zero, suc, ◌-◌, List, [], ◌∷◌, length, map, inl, inr, ⊎_elim, refl, sym, ◌∙◌, ap, subst, Contains, All, Option, Some, None, Bool, true, false, Less, Greater, nat_cmp, Err, slice_get, filter_map, arith}
 use Rattle.std.specs.List.{AllByRecursion, cons_option}
 use Rattle.std.specs.Ordering.{ordering_then}
 use Rattle.std.proofs.lemmas.Cmp.{ranked, by_ranked}
-use Rattle.std.proofs.lemmas.List.Elements.{All-from_recursion, All-contains, recursion_from_All}
+use Rattle.std.proofs.lemmas.List.Elements.{All-from_recursion, All-contains}
 use Rattle.jl_prim.specs.declared.declaration.Observed.{Observed}
 use Rattle.jl_logic.specs.Order.{RisesBy, IsLeast}
 use Rattle.jl_logic.proofs.Rising.{contains_head, contains_tail, contains_cases, contains_nothing, each_from_members}
@@ -11,8 +11,8 @@ use Rattle.jl_config.specs.declared.fault.ResolveFault.{ResolveFault}
 use Rattle.jl_config.specs.declared.fault.ResolveFault.TheVariants.{NoParents, NotFound, TooMany, Cycle, SameName, SamePackage, OwnPackage, ServicePackage, NoMemory}
 use Rattle.jl_config.specs.declared.site.Site.{Site}
 use Rattle.jl_config.specs.Graphs.{Graph}
-use Rattle.jl_config.specs.Located.{Asked, Scene, scene_of, id_of, site_name}
-use Rattle.jl_config.specs.Members.{IsFound, Enumerated, IsCaused, IsJustified, IsBound, IsMemberBy, IsMember}
+use Rattle.jl_config.specs.Located.{Asked, Scene, scene_of}
+use Rattle.jl_config.specs.Members.{Enumerated, IsBound, IsMemberBy, IsMember}
 use Rattle.jl_config.specs.Orders.{module_cmp, site_cmp}
 use Rattle.jl_config.specs.Places.{AreMembers, sites_at, MissingFault, CycleFault, SameNameFault, SamePackageFault, OwnPackageFault, ServiceFault}
 use Rattle.jl_config.specs.Refusals.{IsLarge, most, Applies, rank, fields, fields_cmp, fault_cmp}

@@ -1,12 +1,10 @@
 -- Circles of modules that require each other: a module is on one exactly where its place is reached from what it requires.
-use Rattle.std.proofs.Common.{◌≡◌, ◌⊎◌, ◌<◌, ℕ, zero, suc, List, [], ◌∷◌, length, map, get_or, inl, inr, ⊎_elim, refl, sym, ◌∙◌, ap, subst, Contains, All, Option, Some, None, Bool, true, false, slice_get, arith}
-use Rattle.std.proofs.lemmas.List.Elements.{All-from_recursion}
+use Rattle.std.proofs.Common.{◌≡◌, ◌<◌, ℕ, zero, suc, List, [], ◌∷◌, length, map, get_or, refl, sym, ◌∙◌, ap, subst, Contains, All, Some, Bool, true, slice_get, arith}
 use Rattle.jl_prim.specs.declared.declaration.Requires.{Requires}
-use Rattle.jl_logic.proofs.Rising.{contains_head, contains_tail, contains_cases, contains_nothing, each_from_members}
-use Rattle.jl_closure.specs.Reached.{Follows, Chain, IsReached, AreMarksOf}
+use Rattle.jl_closure.specs.Reached.{Follows, Chain, AreMarksOf}
 use Rattle.jl_closure.proofs.Always.{marks_exist}
 use Rattle.jl_config.specs.declared.site.Site.{Site}
-use Rattle.jl_config.specs.Located.{Scene, site_name, located}
+use Rattle.jl_config.specs.Located.{Scene, site_name}
 use Rattle.jl_config.specs.Members.{IsMember}
 use Rattle.jl_config.specs.Places.{place_named, AreMarks}
 use Rattle.jl_config.specs.Refusals.{HasEdge, Leads, IsOnCircle}

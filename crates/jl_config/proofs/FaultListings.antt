@@ -1,21 +1,16 @@
 -- For each kind of refusal the list of exactly the fields for which its condition holds.
-use Rattle.std.proofs.Common.{◌≡◌, ◌≢◌, ◌⊎◌, ◌<◌, ◌≤◌, ℕ, List, [], ◌∷◌, length, All, inl, inr, ⊎_elim, refl, sym, ◌∙◌, ap, subst, Contains, Option, Some, None, IsTrue, arith}
+use Rattle.std.proofs.Common.{◌≡◌, ◌≢◌, ◌⊎◌, ◌<◌, ◌≤◌, ℕ, List, length, inl, inr, refl, sym, ◌∙◌, subst, Contains, Option, Some, None, arith}
 use Rattle.std.proofs.lemmas.List.Elements.{All-from_recursion, All-contains}
-use Rattle.jl_prim.specs.declared.numbers.ConfigId.{ConfigId}
-use Rattle.jl_prim.specs.declared.declaration.Requires.{Requires}
-use Rattle.jl_prim.specs.declared.declaration.Provides.{Provides}
-use Rattle.jl_prim.specs.declared.declaration.Grant.{Grant}
 use Rattle.jl_names.specs.Names.{package_of}
-use Rattle.jl_logic.specs.Order.{RisesBy}
 use Rattle.jl_logic.proofs.Rising.{each_from_members}
 use Rattle.jl_config.specs.declared.site.Site.{Site}
 use Rattle.jl_config.specs.Located.{Scene, site_name, located}
-use Rattle.jl_config.specs.Members.{is_followed, Needs, Uses, IsProvidedBy, IsMember, Reads}
+use Rattle.jl_config.specs.Members.{Needs, Uses, IsProvidedBy, IsMember, Reads}
 use Rattle.jl_config.specs.Orders.{site_cmp}
-use Rattle.jl_config.specs.Refusals.{IsMissing, IsLarge, most, IsSameName, ReachesBy, Exports, Gets, Holds, IsSamePackage, IsOwnPackage, Sees, IsServicePackage}
+use Rattle.jl_config.specs.Refusals.{IsMissing, IsLarge, most, IsSameName, Exports, Gets, Holds, IsSamePackage, IsOwnPackage, Sees, IsServicePackage}
 use Rattle.jl_config.proofs.DeclaredLists.{decided_in, needed, exported, services, decided_config}
 use Rattle.jl_config.proofs.FaultOrder.{sites_total, names_exact}
-use Rattle.jl_config.proofs.Listings.{Listing, Decided, decided_both, decided_either, decided_not, decided_same, decided_true, decided_name, decided_number, decided_less, decided_none, decided_contains, decided_some, listing_each, listing_where, listing_same, listing_either, listing_if, listing_map, listing_items}
+use Rattle.jl_config.proofs.Listings.{Listing, Decided, decided_both, decided_either, decided_not, decided_same, decided_name, decided_less, decided_none, decided_contains, decided_some, listing_each, listing_where, listing_same, listing_either, listing_if, listing_map, listing_items}
 use Rattle.jl_config.proofs.RisingLists.{Rising, sorted, no_longer}
 use Rattle.jl_config.proofs.Listed.{Lists}
 use Rattle.jl_config.proofs.FoundPlaces.{one_of_name}

@@ -42,9 +42,6 @@ reads_total = then_total (on_total (λ (r : Read). r.reader) nat_list_cmp_total)
 pub modules_apart : (x y : Observed) → module_cmp x y ≡ Less → module_cmp y x ≡ Less → ⊥
 modules_apart = apart_from_total module_cmp modules_total
 
-pub sites_apart : (x y : Site) → site_cmp x y ≡ Less → site_cmp y x ≡ Less → ⊥
-sites_apart = apart_from_total site_cmp sites_total
-
 pub reads_apart : (x y : Read) → read_cmp x y ≡ Less → read_cmp y x ≡ Less → ⊥
 reads_apart = apart_from_total read_cmp reads_total
 

@@ -1,8 +1,7 @@
 -- The modules of the set and what they read, as lists of exactly these, from marks and places.
-use Rattle.std.proofs.Common.{◌≡◌, ◌<◌, ◌+◌, ℕ, zero, suc, List, [], ◌∷◌, length, refl, sym, ◌∙◌, ap, subst, Contains, Option, Some, None, Bool, true, false, cond, IsTrue, nat_eq, slice_get, inl, inr, arith}
+use Rattle.std.proofs.Common.{◌≡◌, ◌<◌, ◌+◌, ℕ, zero, suc, List, [], ◌∷◌, length, refl, sym, ◌∙◌, ap, subst, Contains, Option, Some, None, Bool, true, false, cond, nat_eq, slice_get, inl, inr, arith}
 use Rattle.std.specs.Option.{option_map}
 use Rattle.std.specs.Cmp.Lexicographic.{pointwise, bytes_decides}
-use Rattle.jl_prim.specs.declared.numbers.ConfigId.{ConfigId}
 use Rattle.jl_config.specs.declared.site.Site.{Site}
 use Rattle.jl_config.specs.Located.{Scene, site_name, find_named, located}
 use Rattle.jl_config.specs.Members.{IsFound, IsMemberBy, IsMember, Reads}

@@ -1,5 +1,5 @@
 -- Properties that exactly the items of a list have, and properties that are decided.
-use Rattle.std.proofs.Common.{◌≡◌, ◌≢◌, ◌⊎◌, ◌<◌, ℕ, zero, suc, List, [], ◌∷◌, ◌++◌, inl, inr, ⊎_elim, refl, sym, ◌∙◌, ap, subst, Contains, Option, Some, None, Bool, true, false, IsTrue, nat_eq, true≢false, slice_get, arith}
+use Rattle.std.proofs.Common.{◌≡◌, ◌⊎◌, ◌<◌, ℕ, zero, suc, List, [], ◌∷◌, ◌++◌, inl, inr, ⊎_elim, refl, sym, ap, subst, Contains, Option, Some, None, Bool, true, false, IsTrue, nat_eq, arith}
 use Rattle.std.specs.Cmp.Lexicographic.{pointwise, bytes_decides}
 use Rattle.jl_logic.proofs.Rising.{contains_head, contains_tail, contains_cases, contains_nothing}
 
@@ -80,9 +80,6 @@ module _ {X : Type 0} where
 -- ---- listings
 
 module _ {X : Type 0} where
-  pub listing_none : (P : X → Type 0) → ((x : X) → P x → ⊥) → Listing P
-  listing_none P n = record { items = []; only = λ x c. contains_nothing x c; all = λ x p. absurd (n x p) }
-
   pub listing_same : (P Q : X → Type 0) → ((x : X) → P x → Q x) → ((x : X) → Q x → P x) → Listing P → Listing Q
   listing_same P Q f g l = record { items = l.items; only = λ x c. f x (l.only x c); all = λ x k. l.all x (g x k) }
 

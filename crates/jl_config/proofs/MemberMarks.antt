@@ -1,13 +1,12 @@
 -- The modules of the set are those whose places are reached: a chain of places gives a justified list, or without binding an enumerated one, and the other way round.
-use Rattle.std.proofs.Common.{◌≡◌, ◌⊎◌, ◌<◌, ℕ, zero, suc, List, [], ◌∷◌, length, map, get_or, inl, inr, ⊎_elim, refl, sym, ◌∙◌, ap, subst, Contains, All, Option, Some, None, Bool, true, false, ◌&&◌, IsTrue, true≢false, slice_get, arith}
-use Rattle.std.proofs.lemmas.List.Elements.{All-from_recursion}
-use Rattle.jl_logic.proofs.Rising.{contains_head, contains_tail, contains_cases, contains_nothing, each_from_members}
+use Rattle.std.proofs.Common.{◌≡◌, ◌⊎◌, ◌<◌, ℕ, zero, suc, List, [], ◌∷◌, length, map, inl, inr, ⊎_elim, refl, sym, ◌∙◌, ap, subst, Contains, All, Option, Some, None, Bool, true, false, ◌&&◌, IsTrue, true≢false, slice_get, arith}
+use Rattle.jl_logic.proofs.Rising.{contains_head, contains_tail, contains_cases, contains_nothing}
 use Rattle.jl_closure.specs.Reached.{Follows, Chain, IsReached, AreMarksOf}
 use Rattle.jl_closure.proofs.Always.{marks_exist}
 use Rattle.jl_prim.specs.declared.declaration.Provides.{Provides}
 use Rattle.jl_config.specs.declared.site.Site.{Site}
-use Rattle.jl_config.specs.Located.{Scene, site_name, located, is_here}
-use Rattle.jl_config.specs.Members.{Needs, Uses, IsProvidedBy, IsFound, Enumerated, IsAbove, IsUsed, IsCaused, IsJustified, IsBound, IsMemberBy, IsMember}
+use Rattle.jl_config.specs.Located.{Scene, site_name, is_here}
+use Rattle.jl_config.specs.Members.{Needs, Uses, IsProvidedBy, IsFound, Enumerated, IsAbove, IsCaused, IsJustified, IsBound, IsMemberBy}
 use Rattle.jl_config.specs.Places.{place_named, AreMarks}
 use Rattle.jl_config.proofs.DeclaredLists.{decided_in, needed}
 use Rattle.jl_config.proofs.PlaceRows.{row_at, from_map, map_long, all_of}
@@ -65,17 +64,7 @@ item_of [] p x e = absurd cc
 item_of (w ∷ xs) zero x e = let f : w ≡ x = cc in subst (Contains (w ∷ xs)) f (contains_head w xs)
 item_of (w ∷ xs) (suc p) x e = contains_tail w x xs (item_of xs p x e)
 
-site_where : (ss : List Site) (raw : List Bool) (p : ℕ) (b : Bool) → length raw ≡ length ss → slice_get raw p ≡ Some b → (s : Site) × (slice_get ss p ≡ Some s)
-site_where [] [] p b n e = absurd cc
-site_where [] (m ∷ raw) p b n e = absurd (omega arith)
-site_where (s ∷ ss) [] p b n e = absurd cc
-site_where (s ∷ ss) (m ∷ raw) zero b n e = (s, refl)
-site_where (s ∷ ss) (m ∷ raw) (suc p) b n e = site_where ss raw p b (omega arith) e
-
 module _ (w : Scene) (next : List (List ℕ)) (rows : AreMemberRows w next) (starts : List ℕ) (begin : AreMemberStarts w starts) (raw : List Bool) (marks : AreMarksOf next starts raw) where
-  site_reached : (p : ℕ) → IsReached next starts p → (s : Site) × (slice_get w.sites p ≡ Some s)
-  site_reached p r = site_where w.sites raw p true (marks.one_each ∙ rows.one_each) (marks.all p r)
-
   -- ---- without binding
 
   chain_enumerated : w.binds ≡ false → (n q : ℕ) → Chain next starts n q → (t : Site) × IsFoundAt w q t × Enumerated w n t

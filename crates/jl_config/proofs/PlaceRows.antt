@@ -1,5 +1,5 @@
 -- A row for each place: what is made of each item of a list.
-use Rattle.std.proofs.Common.{◌≡◌, ℕ, zero, suc, List, [], ◌∷◌, length, map, get_or, ⊎_elim, refl, ap, Contains, All, Option, Some, slice_get, arith}
+use Rattle.std.proofs.Common.{◌≡◌, ℕ, zero, suc, List, [], ◌∷◌, length, map, get_or, ⊎_elim, refl, ap, Contains, All, Some, slice_get, arith}
 use Rattle.std.proofs.lemmas.List.Elements.{All-from_recursion}
 use Rattle.jl_logic.proofs.Rising.{contains_cases, contains_nothing, each_from_members}
 
