@@ -9,3 +9,17 @@ pub mod MissingLeasts
 pub mod MissingWhole
 pub mod Noting
 pub mod Sighted
+pub mod Always
+pub mod Assembled
+pub mod Circles
+pub mod DeclaredLists
+pub mod FaultListings
+pub mod FaultOrder
+pub mod FoundPlaces
+pub mod Listed
+pub mod Listings
+pub mod MemberMarks
+pub mod PlaceRows
+pub mod ReadMarks
+pub mod RisingLists
+pub mod Unique
