@@ -6,3 +6,4 @@ pub mod Refusals
 pub mod Resolves
 pub mod Laws
 pub mod Places
+pub mod ReadRows

@@ -5,9 +5,11 @@ mod configuration;
 mod fault;
 mod law;
 mod members;
+mod readings;
 mod resolution;
 mod sights;
 mod site;
+mod sorted;
 
 pub use configuration::{Configuration, Read};
 pub use fault::ResolveFault;

@@ -1,0 +1,4 @@
+pub mod ReadLists
+pub mod ReadFinds
+pub mod ReadMarks
+pub mod ReadOrders
