@@ -9,10 +9,10 @@ use Rattle.jl_config.specs.declared.site.Site.{Site}
 use Rattle.jl_config.specs.Located.{site_name, is_numbered, find_named, find_site}
 use Rattle.jl_config.specs.Places.{place_named, place_of_site}
 
-text_same : (a b : List ℕ) → is_text a b ≡ true → a ≡ b
+pub text_same : (a b : List ℕ) → is_text a b ≡ true → a ≡ b
 text_same a b e = (bytes_decides a b).0 e
 
-text_itself : (a : List ℕ) → is_text a a ≡ true
+pub text_itself : (a : List ℕ) → is_text a a ≡ true
 text_itself a = (bytes_decides a a).1 refl
 
 -- the place that a search gives under one more module

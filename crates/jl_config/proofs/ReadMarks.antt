@@ -262,3 +262,13 @@ reads_exist w marks right a m =
     let starts = starts_within w marks a f.0 (read_rows w marks) (read_starts w marks a f.0) refl refl (slice_get_within w.sites f.0 a f.1.at) in
     let reached = marks_exist (read_rows w marks) (read_starts w marks a f.0) graph starts in
     (places_of reached.0, read_by_marks w marks right a f.0 f.1 reached.0 (places_of reached.0) reached.1 (places_show reached.0) (places_have reached.0))
+
+-- the marks of a closure, from what it was given
+pub marks_for : (w : Scene) (marks : List Bool) (a : Site) (place : ℕ) (next : List (List ℕ)) (starts : List ℕ) (reached : List Bool) → next ≡ read_rows w marks
+    → (s : Site) → slice_get w.sites place ≡ Some a → place < length w.sites → s ≡ get_or w.sites place s → starts ≡ read_starts w marks s place
+    → length reached ≡ length next → ((p : ℕ) → slice_get reached p ≡ Some true → IsReached next starts p) → ((p : ℕ) → IsReached next starts p → slice_get reached p ≡ Some true)
+    → AreMarksOf (read_rows w marks) (read_starts w marks a place) reached
+marks_for w marks a place next starts reached e s at lt is f long only all =
+    let here : slice_get w.sites place ≡ Some s = slice_get-get_or w.sites place s lt ∙ ap Some (sym is) in
+    let same : s ≡ a = same_some s a (slice_get w.sites place) here at in
+    subst (λ n. AreMarksOf n (read_starts w marks a place) reached) e (subst (λ b. AreMarksOf next b reached) (f ∙ ap (λ v. read_starts w marks v place) same) (record { one_each = long; only = only; all = all }))

@@ -208,7 +208,8 @@ fn places_by_name(alloc: Global, sights: &Sights) -> Result<Vec<Placed>, CopyEnd
             place,
         })?;
     }
-    sorted_set(order)
+    let sorted = sorted_set(order)?;
+    Ok(sorted)
 }
 
 /// The places whose marks are set, in order.
