@@ -2,3 +2,5 @@ pub mod ReadLists
 pub mod ReadFinds
 pub mod ReadMarks
 pub mod ReadOrders
+pub mod Collects
+pub mod SameNames

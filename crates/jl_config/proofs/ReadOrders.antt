@@ -33,7 +33,7 @@ last_or_before xs x y A c before last = ⊎_elim before (λ k. ⊎_elim last (λ
 pub site_here : (w : Scene) (p : ℕ) (s : Site) → p < length w.sites → s ≡ get_or w.sites p s → slice_get w.sites p ≡ Some s
 site_here w p s lt is = slice_get-get_or w.sites p s lt ∙ ap Some (sym is)
 
-below_or_last : (p i : ℕ) → p < i + 1 → (p < i) ⊎ (p ≡ i)
+pub below_or_last : (p i : ℕ) → p < i + 1 → (p < i) ⊎ (p ≡ i)
 below_or_last p i lt = by (cases_lt p i)
   where
     by : (p < i) ⊎ (i ≤ p) → (p < i) ⊎ (p ≡ i)

@@ -7,3 +7,4 @@ pub mod Resolves
 pub mod Laws
 pub mod Places
 pub mod ReadRows
+pub mod Collected

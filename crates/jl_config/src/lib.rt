@@ -7,6 +7,7 @@ mod law;
 mod members;
 mod readings;
 mod resolution;
+mod same_name;
 mod sights;
 mod site;
 mod sorted;
