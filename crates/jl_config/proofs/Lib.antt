@@ -4,3 +4,4 @@ pub mod ReadMarks
 pub mod ReadOrders
 pub mod Collects
 pub mod SameNames
+pub mod AllReads

@@ -1,8 +1,9 @@
 -- Lists of any items: what a filter keeps, and places.
 use Rattle.std.proofs.Common.{◌≡◌, ◌⊎◌, ◌<◌, ◌+◌, ℕ, zero, suc, List, [], ◌∷◌, ◌++◌, length, map, take, get_or, slice_get, inl, inr, ⊎_elim, refl, sym, ◌∙◌, ap, ap₂, subst, Contains, Option, Some, None}
-use Rattle.std.specs.List.{filter_map, cons_option}
+use Rattle.std.specs.List.{filter_map, flat_map, cons_option}
 use Rattle.std.specs.Option.{option_to_list}
-use Rattle.std.proofs.lemmas.List.{take_more}
+use Rattle.std.proofs.lemmas.List.{take_more, append-nil}
+use Rattle.std.proofs.lemmas.Grind.{flat_map-append}
 use Rattle.std.proofs.lemmas.List.Elements.{filter_map-append}
 use Rattle.jl_logic.proofs.Rising.{contains_head, contains_tail, contains_cases, contains_nothing}
 
@@ -76,3 +77,18 @@ module _ {X Y : Type 0} (h : X → Option Y) where
 
 pub grown : {Y : Type 0} {o p : Option Y} {new : List Y} (old : List Y) → o ≡ p → new ≡ old ++ option_to_list o → new ≡ old ++ option_to_list p
 grown old e f = f ∙ ap (λ q. old ++ option_to_list q) e
+
+module _ {X Y : Type 0} (f : X → List Y) where
+  pub into_flat_map : (xs : List X) (x : X) (y : Y) → Contains xs x → Contains (f x) y → Contains (flat_map f xs) y
+  into_flat_map [] x y c d = contains_nothing x c
+  into_flat_map (w ∷ xs) x y c d = ⊎_elim (λ e. contains_left (f w) (flat_map f xs) y (subst (λ v. Contains (f v) y) (sym e) d)) (λ k. contains_right (f w) (flat_map f xs) y (into_flat_map xs x y k d)) (contains_cases w x xs c)
+
+  pub from_flat_map : (xs : List X) (y : Y) → Contains (flat_map f xs) y → (x : X) × Contains xs x × Contains (f x) y
+  from_flat_map [] y c = contains_nothing y c
+  from_flat_map (w ∷ xs) y c = ⊎_elim (λ k. (w, contains_head w xs, k)) (λ k. let r = from_flat_map xs y k in (r.0, contains_tail w r.0 xs r.1, r.2)) (contains_either (f w) (flat_map f xs) y c)
+
+  -- a loop's step, where the result grew by what the item at i gives
+  pub flat_map_step : (xs : List X) (i : ℕ) (x : X) (old new : List Y) → i < length xs → x ≡ get_or xs i x → old ≡ flat_map f (take i xs) → new ≡ old ++ f x → new ≡ flat_map f (take (i + 1) xs)
+  flat_map_step xs i x old new lt is e g =
+      let more : take (i + 1) xs ≡ take i xs ++ x ∷ [] = take_more xs i x lt ∙ ap (λ w. take i xs ++ w ∷ []) (sym is) in
+      g ∙ ap (λ l. l ++ f x) e ∙ ap (λ l. flat_map f (take i xs) ++ l) (sym (append-nil (f x))) ∙ sym (flat_map-append f (take i xs) (x ∷ [])) ∙ sym (ap (flat_map f) more)

@@ -76,26 +76,28 @@ pub read_within : (w : Scene) (r : Reading) (i : ℕ) → IsReading w r → i < 
 read_within w r i h lt = All-contains (λ p. p < length w.sites) r.read (get_or r.read i 0) h.1.reads.read.within (contains_at r.read i (get_or r.read i 0) (slice_get-get_or r.read i 0 lt))
 
 -- a place of a reading, and the module there
-record ReadAt (w : Scene) (a : Site) (p : ℕ) : Type 0 where
+pub record ReadAt (w : Scene) (a : Site) (p : ℕ) : Type 0 where
   pub site : Site
   pub at : slice_get w.sites p ≡ Some site
   pub read : Reads w a site
   pub first : place_of_site site.config (site_name site) w.sites ≡ Some p
 
-read_at : (w : Scene) (r : Reading) (a : Site) (i : ℕ) → IsReadingOf w r a → i < length r.read → ReadAt w a (get_or r.read i 0)
-read_at w r a i h lt =
-    let p : ℕ = get_or r.read i 0 in
-    let s = site_exists w.sites p (read_within w r i (a, h) lt) in
-    let o = h.reads.read.only p s.0 (contains_at r.read i p (slice_get-get_or r.read i 0 lt)) s.1 in
+pub place_read : (w : Scene) (r : Reading) (a : Site) (p : ℕ) → IsReadingOf w r a → Contains r.read p → ReadAt w a p
+place_read w r a p h c =
+    let s = site_exists w.sites p (All-contains (λ q. q < length w.sites) r.read p h.reads.read.within c) in
+    let o = h.reads.read.only p s.0 c s.1 in
     record { site = s.0; at = s.1; read = o.0; first = o.1 }
 
-one_first : (w : Scene) (b c : Site) (p q : ℕ) → place_of_site b.config (site_name b) w.sites ≡ Some p → place_of_site c.config (site_name c) w.sites ≡ Some q → b.config ≡ c.config → site_name b ≡ site_name c → p ≡ q
+read_at : (w : Scene) (r : Reading) (a : Site) (i : ℕ) → IsReadingOf w r a → i < length r.read → ReadAt w a (get_or r.read i 0)
+read_at w r a i h lt = place_read w r a (get_or r.read i 0) h (contains_at r.read i (get_or r.read i 0) (slice_get-get_or r.read i 0 lt))
+
+pub one_first : (w : Scene) (b c : Site) (p q : ℕ) → place_of_site b.config (site_name b) w.sites ≡ Some p → place_of_site c.config (site_name c) w.sites ≡ Some q → b.config ≡ c.config → site_name b ≡ site_name c → p ≡ q
 one_first w b c p q f g e n =
     let h : Some p ≡ Some q = sym f ∙ ap (λ k. place_of_site k (site_name b) w.sites) e ∙ ap (λ k. place_of_site c.config k w.sites) n ∙ g in
     cc
 
 -- no place is less than itself
-not_before_itself : (w : Scene) (p : ℕ) → place_cmp w p p ≡ Less → ⊥
+pub not_before_itself : (w : Scene) (p : ℕ) → place_cmp w p p ≡ Less → ⊥
 not_before_itself w p l =
     let e : place_cmp w p p ≡ nat_cmp p p = ap (λ o. ordering_then o (nat_cmp p p)) (tied_itself nat_list_cmp_total (name_at w p)) in
     let f : nat_cmp p p ≡ Less = sym e ∙ l in

@@ -3,8 +3,10 @@ use Rattle.std.specs.Prelude.{◌≡◌, ℕ, ◌<◌, List, [], ◌∷◌, ◌+
 use Rattle.std.specs.List.{filter_map}
 use Rattle.std.specs.Ordering.{ordering_then, nat_cmp}
 use Rattle.std.specs.declared.cmp.Ordering.{Ordering}
+use Rattle.jl_prim.specs.declared.numbers.ConfigId.{ConfigId}
 use Rattle.jl_prim.specs.declared.declaration.Requires.{Requires}
 use Rattle.jl_logic.specs.Order.{name_cmp, RisesBy}
+use Rattle.jl_config.specs.declared.configuration.Read.{Read}
 use Rattle.jl_config.specs.declared.site.Site.{Site}
 use Rattle.jl_config.specs.declared.readings.Reading.{Reading}
 use Rattle.jl_config.specs.declared.readings.Placed.{Placed}
@@ -98,3 +100,16 @@ pub record AreReadings (w : Scene) (rs : List Reading) : Type 0 where
   pub rise : RisesBy (reading_cmp w) rs
   pub only : (r : Reading) → Contains rs r → (a : Site) × IsReadingOf w r a
   pub all : (a : Site) → IsMember w a → (r : Reading) × Contains rs r × IsReadingOf w r a
+
+-- ---- reads
+
+abbrev pub option_config : Option Site → ConfigId
+option_config None = record { 0 = 0 }
+option_config (Some s) = s.config
+
+-- that the module at p reads the one at q
+abbrev pub read_between : Scene → ℕ → ℕ → Read
+read_between w p q = record { reader = name_at w p; config = option_config (slice_get w.sites q); name = name_at w q }
+
+abbrev pub reads_in : Scene → Reading → List Read
+reads_in w r = map (read_between w r.reader) r.read

@@ -6,6 +6,7 @@ mod fault;
 mod law;
 mod members;
 mod readings;
+mod reads;
 mod resolution;
 mod same_name;
 mod sights;
