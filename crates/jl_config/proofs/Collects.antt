@@ -5,7 +5,7 @@ use Rattle.std.specs.Option.{option_map, option_cmp}
 use Rattle.std.specs.Ordering.{ordering_reverse}
 use Rattle.std.specs.Cmp.Lexicographic.{options_total, nat_list_cmp_total}
 use Rattle.std.proofs.lemmas.Cmp.{on_total, then_total, nat_cmp_total, lists_total}
-use Rattle.std.proofs.lemmas.List.{take_more, take_all}
+use Rattle.std.proofs.lemmas.List.{take_more, take_all, get_or_default}
 use Rattle.jl_logic.specs.Order.{name_cmp, optional_cmp, IsLeast}
 use Rattle.jl_logic.proofs.Rising.{contains_head, contains_nothing, apart_from_total}
 use Rattle.jl_config.specs.declared.fault.ResolveFault.{ResolveFault}
@@ -32,6 +32,13 @@ module _ {X : Type 0} where
     keeps = λ x k. g.keeps x (f.keeps x k);
     only = λ x k. ⊎_elim (λ m. ⊎_elim inl (λ p. inr (from_p x p)) (f.only x m)) (λ q. inr (from_q x q)) (g.only x k);
     all = λ x r. ⊎_elim (λ p. g.keeps x (f.all x p)) (λ q. g.all x q) (into x r);
+  }
+
+  pub adds_same : (a b : List X) (P Q : X → Type 0) → Adds a b P → ((x : X) → P x → Q x) → ((x : X) → Q x → P x) → Adds a b Q
+  adds_same a b P Q f from into = record {
+    keeps = f.keeps;
+    only = λ x c. ⊎_elim inl (λ p. inr (from x p)) (f.only x c);
+    all = λ x q. f.all x (into x q);
   }
 
   -- a loop over numbers begins and goes on
@@ -117,3 +124,7 @@ fault_not_less g h e l =
 -- the item of a loop is one of the list
 pub item_among : {X : Type 0} (xs : List X) (i : ℕ) (x : X) → i < length xs → x ≡ get_or xs i x → Contains xs x
 item_among xs i x lt is = (i, lt, sym is)
+
+-- a loop's step over numbers, which are read with the default 0
+pub number_more : {Y : Type 0} (P : ℕ → Y → Type 0) (xs : List ℕ) (i : ℕ) (a b c : List Y) → i < length xs → Adds a b (Among P (take i xs)) → Adds b c (P (get_or xs i 0)) → Adds a c (Among P (take (i + 1) xs))
+number_more P xs i a b c lt f g = among_more P xs i (get_or xs i 0) a b c lt (get_or_default xs i 0 (get_or xs i 0) lt) f g

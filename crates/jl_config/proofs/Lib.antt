@@ -5,3 +5,5 @@ pub mod ReadOrders
 pub mod Collects
 pub mod SameNames
 pub mod AllReads
+pub mod ImportLists
+pub mod PackageFaults

@@ -108,3 +108,8 @@ named_first name (v ∷ ss) p s e at = by (named_first name ss) (is_text (site_n
         let r = more d.0 s d.1 (subst (λ k. slice_get (v ∷ ss) k ≡ Some s) (sym d.2) at) in
         let test : (is_numbered v.config s.config && is_text (site_name v) name) ≡ false = rw h (and_false (is_numbered v.config s.config)) in
         rw (test, r) (ap Some (add-one d.0 ∙ d.2))
+
+pub text_differs : (a b : List ℕ) → is_text a b ≡ false → a ≡ b → ⊥
+text_differs a b e f =
+    let g : is_text a b ≡ true = (bytes_decides a b).1 f in
+    absurd (cc)

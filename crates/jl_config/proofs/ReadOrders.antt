@@ -171,7 +171,7 @@ more_read w places i p r old new lt is e one f h = subst (AreRead w places (i + 
   each = λ s c. last_or_before old r s ((a : Site) × IsReadingOf w s a) c (h.each s) (λ g. subst (λ (t : Reading). (a : Site) × IsReadingOf w t a) g one);
 })
 
-same_some : {X : Type 0} (x y : X) (o : Option X) → o ≡ Some x → o ≡ Some y → x ≡ y
+pub same_some : {X : Type 0} (x y : X) (o : Option X) → o ≡ Some x → o ≡ Some y → x ≡ y
 same_some x y o e f = cc
 
 module _ (w : Scene) where

@@ -8,3 +8,4 @@ pub mod Laws
 pub mod Places
 pub mod ReadRows
 pub mod Collected
+pub mod Imported

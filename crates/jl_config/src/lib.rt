@@ -3,12 +3,15 @@
 
 mod configuration;
 mod fault;
+mod imports;
 mod law;
 mod members;
+mod packages;
 mod readings;
 mod reads;
 mod resolution;
 mod same_name;
+mod services;
 mod sights;
 mod site;
 mod sorted;
