@@ -23,3 +23,11 @@ pub mod PlaceRows
 pub mod ReadMarks
 pub mod RisingLists
 pub mod Unique
+pub mod ReadLists
+pub mod ReadFinds
+pub mod ReadOrders
+pub mod Collects
+pub mod SameNames
+pub mod AllReads
+pub mod ImportLists
+pub mod PackageFaults

@@ -12,3 +12,6 @@ pub mod MemberRows
 pub mod Placed
 pub mod MissingNames
 pub mod Rounds
+pub mod ReadRows
+pub mod Collected
+pub mod Imported
