@@ -27,7 +27,7 @@ module _ {X : Type 0} where
   })
 
   -- what is added first and then
-  adds_then : (a b c : List X) (P Q R : X → Type 0) → Adds a b P → Adds b c Q → ((x : X) → P x → R x) → ((x : X) → Q x → R x) → ((x : X) → R x → P x ⊎ Q x) → Adds a c R
+  pub adds_then : (a b c : List X) (P Q R : X → Type 0) → Adds a b P → Adds b c Q → ((x : X) → P x → R x) → ((x : X) → Q x → R x) → ((x : X) → R x → P x ⊎ Q x) → Adds a c R
   adds_then a b c P Q R f g from_p from_q into = record {
     keeps = λ x k. g.keeps x (f.keeps x k);
     only = λ x k. ⊎_elim (λ m. ⊎_elim inl (λ p. inr (from_p x p)) (f.only x m)) (λ q. inr (from_q x q)) (g.only x k);

@@ -7,3 +7,4 @@ pub mod SameNames
 pub mod AllReads
 pub mod ImportLists
 pub mod PackageFaults
+pub mod ServiceFaults
