@@ -1,8 +1,7 @@
-use Rattle.std.proofs.Common.{◌≡◌, ◌∙◌, sym, ap, subst, ⊎_elim, List, ℕ, []}
+use Rattle.std.proofs.Common.{subst, ⊎_elim, []}
 use Rattle.jl_logic.proofs.Rising.{contains_nothing}
 use Rattle.jl_config.specs.Collected.{Adds, Among}
 use Rattle.jl_config.specs.Imported.{IsExportedAt}
-use Rattle.jl_config.specs.declared.imports.Exported.{Exported}
 use Rattle.jl_config.proofs.Collects.{number_more, among_all}
 use Rattle.jl_config.proofs.ImportLists.{exported_exact}
 use Rattle.jl_config.proofs.ReadOrders.{from_any}

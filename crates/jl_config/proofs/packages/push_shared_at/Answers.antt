@@ -1,4 +1,4 @@
-use Rattle.std.proofs.Common.{◌≡◌, ◌∙◌, ◌-◌, ◌<◌, length, sym, ap, refl, List, Some, slice_get, arith}
+use Rattle.std.proofs.Common.{◌≡◌, ◌∙◌, ◌-◌, ◌<◌, length, sym, Some, slice_get, arith}
 use Rattle.std.proofs.lemmas.Bool.{not-true, not-false}
 use Rattle.jl_config.specs.ReadRows.{name_at}
 use Rattle.jl_config.specs.declared.packages.SharedPackage.{SharedPackage}
