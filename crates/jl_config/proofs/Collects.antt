@@ -2,7 +2,7 @@
 use Rattle.std.proofs.Common.{◌≡◌, ◌≢◌, ◌<◌, ◌≤◌, ◌+◌, ◌⊎◌, ℕ, zero, suc, List, [], ◌∷◌, ◌++◌, length, take, get_or, inl, inr, ⊎_elim, refl, sym, ◌∙◌, ap, subst, Contains, Option, Some, None, Ordering, Less, Equal, Greater, arith}
 use Rattle.std.specs.Cmp.{IsTotalOrder}
 use Rattle.std.specs.Option.{option_map, option_cmp}
-use Rattle.std.specs.Ordering.{ordering_reverse}
+use Rattle.std.specs.Ordering.{ordering_then, ordering_reverse}
 use Rattle.std.specs.Cmp.Lexicographic.{options_total, nat_list_cmp_total}
 use Rattle.std.proofs.lemmas.Cmp.{on_total, then_total, nat_cmp_total, lists_total}
 use Rattle.std.proofs.lemmas.List.{take_more, take_all, get_or_default}
@@ -101,6 +101,12 @@ less_through o a b m Equal e n h = sym (o.congr b a m e) ∙ h
 less_through {X} {cmp} o a b m Greater e n h =
     let back : cmp a b ≡ Less = o.antisymm a b ∙ ap ordering_reverse e in
     o.trans a b m back h
+
+-- what orders of fields end with changes nothing
+pub then_equal : (o : Ordering) → ordering_then o Equal ≡ o
+then_equal Less = refl
+then_equal Equal = refl
+then_equal Greater = refl
 
 module _ {X : Type 0} (cmp : X → X → Ordering) (f : X → ResolveFault) (P : ResolveFault → Type 0) (xs : List X) where
   -- the least that was collected is the least refusal

@@ -8,3 +8,4 @@ pub mod AllReads
 pub mod ImportLists
 pub mod PackageFaults
 pub mod ServiceFaults
+mod ReadingRows

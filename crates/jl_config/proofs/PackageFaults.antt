@@ -26,7 +26,7 @@ use Rattle.jl_config.specs.Imported.{exported_cmp, IsImportOf, AreImports, IsImp
 use Rattle.jl_config.proofs.ReadLists.{contains_at}
 use Rattle.jl_config.proofs.ReadOrders.{same_some, site_exists}
 use Rattle.jl_config.proofs.SameNames.{rising_at, twin_after}
-use Rattle.jl_config.proofs.Collects.{least_fault, fault_not_less}
+use Rattle.jl_config.proofs.Collects.{then_equal, least_fault, fault_not_less}
 
 exported_total : IsTotalOrder exported_cmp
 exported_total = then_total (on_total (λ (e : Exported). e.«package») nat_list_cmp_total) (on_total (λ (e : Exported). e.exporter) nat_list_cmp_total)
@@ -68,10 +68,19 @@ shared_sound w m a c h s =
     let later = t.2 in
     let rise : name_cmp d.exporter e.exporter ≡ Less = exporters_rise d e t.5 (exports_rise w m a (s.0 - 1) s.0 d e h (omega arith) t.3 t.4) in
     let reader : site_name a ≡ name_at w m.reader = sym (named_reader w m a h) in
-    subst (λ (x : SharedPackage). IsSamePackage w (x.reader, x.«package», x.one, x.other)) (sym t.6)
-    (a, b.0, k.0, reader,
-    (h.member, b.1, subst (λ p. Exports b.0 p (site_name a)) t.5 b.2.0), (h.member, k.1, k.2.0), sym b.2.1, sym k.2.1,
-    (λ f. b.3 (sym b.2.1 ∙ f ∙ sym reader)), (λ f. k.3 (sym k.2.1 ∙ f ∙ sym reader)), less_apart d.exporter e.exporter rise)
+    subst (λ (x : SharedPackage). IsSamePackage w (x.reader, x.«package», x.one, x.other)) (sym t.6) (
+      a,
+      b.0,
+      k.0,
+      reader,
+      (h.member, b.1, subst (λ p. Exports b.0 p (site_name a)) t.5 b.2.0),
+      (h.member, k.1, k.2.0),
+      sym b.2.1,
+      sym k.2.1,
+      (λ f. b.3 (sym b.2.1 ∙ f ∙ sym reader)),
+      (λ f. k.3 (sym k.2.1 ∙ f ∙ sym reader)),
+      less_apart d.exporter e.exporter rise,
+    )
 
 -- ---- what a step of the search finds
 
@@ -138,8 +147,18 @@ pair_after w m a i j d e h lt at be same =
     let n : i + 1 - 1 ≡ i = omega arith in
     record {
       second = y.exporter;
-      is = (i + 1, (d, y, omega arith, subst (λ q. slice_get m.exported q ≡ Some d) (sym n) at, next.1, key,
-      λ t. record { reader = sym (named_reader w m a h) t; «package» = (sym same ∙ key) t; one = d.exporter; other = y.exporter }));
+      is = (
+        i + 1,
+        (
+          d,
+          y,
+          omega arith,
+          subst (λ q. slice_get m.exported q ≡ Some d) (sym n) at,
+          next.1,
+          key,
+          λ t. record { reader = sym (named_reader w m a h) t; «package» = (sym same ∙ key) t; one = d.exporter; other = y.exporter },
+        ),
+      );
       least = ⊎_elim
           (λ far l.
           let f : name_cmp y.exporter e.exporter ≡ Less = exporters_rise y e (sym key ∙ same) (exports_rise w m a (i + 1) j y e h far next.1 be) in
@@ -174,15 +193,19 @@ shared_complete w ms reader p one other right s =
     let be = at_index m.0.exported e j in
     ⊎_elim
     (λ lt.
-    let pair = pair_after w m.0 a i.0 j.0 d e m.2 lt at be refl in
-    (record { reader = site_name a; «package» = p; one = site_name b; other = pair.second }, (m.0, m.1, pair.is),
-    first_pair reader p one other (site_name a) (site_name b) (site_name c) pair.second s.3 s.6 s.7 pair.least))
+    let pair = pair_after w m.0 a i.0 j.0 d e m.2 lt at be refl in (
+      record { reader = site_name a; «package» = p; one = site_name b; other = pair.second },
+      (m.0, m.1, pair.is),
+      first_pair reader p one other (site_name a) (site_name b) (site_name c) pair.second s.3 s.6 s.7 pair.least,
+    ))
     (λ le. ⊎_elim
     (λ gt.
     let pair = pair_after w m.0 a j.0 i.0 e d m.2 gt be at refl in
-    let less : name_cmp (site_name c) (site_name b) ≡ Less = exporters_rise e d refl (exports_rise w m.0 a j.0 i.0 e d m.2 gt be at) in
-    (record { reader = site_name a; «package» = p; one = site_name c; other = pair.second }, (m.0, m.1, pair.is),
-    second_pair reader p one other (site_name a) (site_name b) (site_name c) pair.second s.3 s.6 less))
+    let less : name_cmp (site_name c) (site_name b) ≡ Less = exporters_rise e d refl (exports_rise w m.0 a j.0 i.0 e d m.2 gt be at) in (
+      record { reader = site_name a; «package» = p; one = site_name c; other = pair.second },
+      (m.0, m.1, pair.is),
+      second_pair reader p one other (site_name a) (site_name b) (site_name c) pair.second s.3 s.6 less,
+    ))
     (λ ge.
     let f : i.0 ≡ j.0 = omega (arith, le, ge) in
     let g : d ≡ e = same_some d e (slice_get m.0.exported j.0) (subst (λ k. slice_get m.0.exported k ≡ Some d) f at) be in
@@ -208,11 +231,6 @@ shared_complete w ms reader p one other right s =
         let k : ordering_then (name_cmp bn cn) (ordering_then (name_cmp t u) Equal) ≡ Less = sym (four ar p bn cn t u) ∙ h in
         let z : ordering_then Greater (ordering_then (name_cmp t u) Equal) ≡ Less = rw (greater_back cn bn n) at k in
         absurd cc
-
-then_equal : (o : Ordering) → ordering_then o Equal ≡ o
-then_equal Less = refl
-then_equal Equal = refl
-then_equal Greater = refl
 
 pub least_shared : (w : Scene) (ms : List Imports) (found : List SharedPackage) (cmp : SharedPackage → SharedPackage → Ordering) (o : Option SharedPackage) → AreImports w ms → Adds [] found (Among (IsPackageShared w) ms)
     → IsLeastSome cmp (Contains found) o

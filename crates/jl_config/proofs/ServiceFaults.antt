@@ -28,7 +28,7 @@ use Rattle.jl_config.specs.Imported.{exported_cmp, IsImportOf, IsImport, AreImpo
 use Rattle.jl_config.proofs.ReadFinds.{text_same, text_differs, same_number}
 use Rattle.jl_config.proofs.ReadOrders.{same_some}
 use Rattle.jl_config.proofs.SameNames.{names_exact, rising_at}
-use Rattle.jl_config.proofs.Collects.{least_fault, fault_not_less}
+use Rattle.jl_config.proofs.Collects.{then_equal, least_fault, fault_not_less}
 
 -- ---- a search by package
 
@@ -55,15 +55,17 @@ searched_right p es (Ok i) up range h = (λ t. found es range h, λ x. refl)
         let x : Exported = get_or (e ∷ es) i e in
         (x, (i, lt, get_or_default (e ∷ es) i x e lt), names_exact x.«package» p (g e))
 searched_right p es (Err i) up range h =
-    let split = h (searchable_from_sorted nat_list_cmp_total (λ (e : Exported). e.«package») es p (sorted_packages es up)) in
-    (λ t. absurd cc, λ x.
-    let k : ℕ = x.1.0 in
-    let at : get_or es k x.0 ≡ x.0 = x.1.2 in
-    let tie : name_cmp (get_or es k x.0).«package» p ≡ Equal = rw (at, x.2) (tied_itself nat_list_cmp_total p) in
-    ⊎_elim
-    (λ lt. let f : name_cmp (get_or es k x.0).«package» p ≡ Less = split.0 k x.0 (omega arith) lt in absurd cc)
-    (λ le. let f : name_cmp (get_or es k x.0).«package» p ≡ Greater = split.1 k x.0 le x.1.1 in absurd cc)
-    (cases_lt k i))
+    let split = h (searchable_from_sorted nat_list_cmp_total (λ (e : Exported). e.«package») es p (sorted_packages es up)) in (
+      λ t. absurd cc,
+      λ x.
+          let k : ℕ = x.1.0 in
+          let at : get_or es k x.0 ≡ x.0 = x.1.2 in
+          let tie : name_cmp (get_or es k x.0).«package» p ≡ Equal = rw (at, x.2) (tied_itself nat_list_cmp_total p) in
+          ⊎_elim
+          (λ lt. let f : name_cmp (get_or es k x.0).«package» p ≡ Less = split.0 k x.0 (omega arith) lt in absurd cc)
+          (λ le. let f : name_cmp (get_or es k x.0).«package» p ≡ Greater = split.1 k x.0 le x.1.1 in absurd cc)
+          (cases_lt k i),
+    )
 
 -- ---- what a reader does not see
 
@@ -126,11 +128,6 @@ module _ (w : Scene) (apart : (f : ResolveFault) → SameNameFault w f → ⊥) 
 
   pub unseen_has : (name service : List ℕ) → site_name a ≡ name → Uses a service ⊎ IsProvidedBy a service → (Sees w a (package_of service) → ⊥) → IsUnseenIn w m (record { «module» = name; service = service })
   unseen_has name service named u never = (a, h.here, u, (λ s. never (sees_by (package_of service) s), λ i. record { «module» = sym named i; service = service }))
-
-then_equal : (o : Ordering) → ordering_then o Equal ≡ o
-then_equal Less = refl
-then_equal Equal = refl
-then_equal Greater = refl
 
 pub least_unseen : (w : Scene) → ((f : ResolveFault) → SameNameFault w f → ⊥) → (ms : List Imports) (found : List UnseenService) (cmp : UnseenService → UnseenService → Ordering) (o : Option UnseenService) → AreImports w ms
     → Adds [] found (Among (IsUnseenIn w) ms) → IsLeastSome cmp (Contains found) o → ((x y : UnseenService) → cmp x y ≡ ordering_then (name_cmp x.«module» y.«module») (name_cmp x.service y.service))

@@ -132,11 +132,8 @@ fn exports_to_itself(site: &Site, name: &[u8]) -> bool
     ensures { IsTrue result ↔ Exports site.now name.now (site_name site.now) }
 {
     let declaration = &site.observed.declaration;
-    declaration
-        .exports
-        .as_slice()
-        .iter()
-        .any(|grant| grant.package.as_bytes() == name && reaches(grant, &declaration.name))
+    declaration.exports.as_slice().iter().any(|grant| grant.package.as_bytes() == name
+        && reaches(grant, &declaration.name))
 }
 
 fn is_imported(exported: &[Exported], name: &[u8]) -> bool

@@ -11,7 +11,6 @@ pub loop-place-preserved : goal.loop-place-preserved
 loop-place-preserved c =
     number_more (IsExportedAt c.args.sights.now c.args.reading.now.reader) c.as_slice-place-items.result.now c.loop-place.place-index _ c.loop-place.exported.items _ c.loop-place-test.true c.loop-place.invariant c.in_ok-push_exports_at.ensures
 
-
 pub returns-clause-only : goal.returns-clause-only
 returns-clause-only c = λ e k.
     let all : Adds [] c.loop-place.exported.items (Among (IsExportedAt c.args.sights.now c.args.reading.now.reader) c.args.reading.now.read) =
