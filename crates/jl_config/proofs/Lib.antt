@@ -7,5 +7,6 @@ pub mod SameNames
 pub mod AllReads
 pub mod ImportLists
 pub mod PackageFaults
+pub mod NameSearch
 pub mod ServiceFaults
 mod ReadingRows

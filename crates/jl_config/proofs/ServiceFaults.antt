@@ -23,49 +23,34 @@ use Rattle.jl_config.specs.Located.{Scene, site_name, is_numbered}
 use Rattle.jl_config.specs.Members.{Reads, Uses, IsProvidedBy}
 use Rattle.jl_config.specs.Places.{IsLeastSome, SameNameFault, ServiceFault}
 use Rattle.jl_config.specs.Refusals.{Exports, Gets, Holds, Sees, IsServicePackage, fault_cmp}
-use Rattle.jl_config.specs.Collected.{Adds, Among}
-use Rattle.jl_config.specs.Imported.{exported_cmp, IsImportOf, IsImport, AreImports, IsImported, IsSeen, IsUnseen, IsUnseenProvided, IsUnseenIn, service_fault}
+use Rattle.jl_config.specs.Collected.{Adds, Among, AreSorted}
+use Rattle.jl_config.specs.Imported.{exported_cmp, IsImportOf, IsImport, AreImports, IsImported, IsOwnExport, AreOwn, IsSeen, IsUnseen, IsUnseenProvided, IsUnseenIn, service_fault}
 use Rattle.jl_config.proofs.ReadFinds.{text_same, text_differs, same_number}
+use Rattle.jl_config.proofs.NameSearch.{key_searched}
 use Rattle.jl_config.proofs.ReadOrders.{same_some}
 use Rattle.jl_config.proofs.SameNames.{names_exact, rising_at}
 use Rattle.jl_config.proofs.Collects.{then_equal, least_fault, fault_not_less}
 
 -- ---- a search by package
 
-package_cmp : List ℕ → Exported → Ordering
-package_cmp p e = name_cmp e.«package» p
-
-not_back : (d e : Exported) → exported_cmp d e ≡ Less → is_lt (name_cmp e.«package» d.«package») ≡ false
-not_back d e l = by (name_cmp d.«package» e.«package») refl l
-  where
-    by : (o : Ordering) → name_cmp d.«package» e.«package» ≡ o → ordering_then o (name_cmp d.exporter e.exporter) ≡ Less → is_lt (name_cmp e.«package» d.«package») ≡ false
-    by Less f g = rw (nat_list_cmp_total.antisymm e.«package» d.«package», f) refl
-    by Equal f g = rw (nat_list_cmp_total.antisymm e.«package» d.«package», f) refl
-    by Greater f g = absurd cc
-
-sorted_packages : (es : List Exported) → RisesBy exported_cmp es → IsSortedBy (λ d e. is_lt (name_cmp d.«package» e.«package»)) es
-sorted_packages es up k d le lt = not_back (get_or es k d) (get_or es (k + 1) d) (rising_at exported_cmp es up k (k + 1) d (omega arith) (omega arith))
-
 pub searched_right : (p : List ℕ) (es : List Exported) (r : Result ℕ ℕ) → RisesBy exported_cmp es → IsSearchInRange r (length es) → IsBinarySearchResult (λ (e : Exported). name_cmp e.«package» p) es r → IsTrue (is_ok r) ↔ IsImported es p
-searched_right p es (Ok i) up range h = (λ t. found es range h, λ x. refl)
-  where
-    found : (es : List Exported) → i < length es → ((d : Exported) → name_cmp (get_or es i d).«package» p ≡ Equal) → IsImported es p
-    found [] lt g = absurd (omega arith)
-    found (e ∷ es) lt g =
-        let x : Exported = get_or (e ∷ es) i e in
-        (x, (i, lt, get_or_default (e ∷ es) i x e lt), names_exact x.«package» p (g e))
-searched_right p es (Err i) up range h =
-    let split = h (searchable_from_sorted nat_list_cmp_total (λ (e : Exported). e.«package») es p (sorted_packages es up)) in (
-      λ t. absurd cc,
-      λ x.
-          let k : ℕ = x.1.0 in
-          let at : get_or es k x.0 ≡ x.0 = x.1.2 in
-          let tie : name_cmp (get_or es k x.0).«package» p ≡ Equal = rw (at, x.2) (tied_itself nat_list_cmp_total p) in
-          ⊎_elim
-          (λ lt. let f : name_cmp (get_or es k x.0).«package» p ≡ Less = split.0 k x.0 (omega arith) lt in absurd cc)
-          (λ le. let f : name_cmp (get_or es k x.0).«package» p ≡ Greater = split.1 k x.0 le x.1.1 in absurd cc)
-          (cases_lt k i),
-    )
+searched_right p es r up range h = key_searched exported_cmp (λ (e : Exported). e.«package») (λ (d e : Exported). name_cmp d.exporter e.exporter) (λ d e. refl) p es r up range h
+
+-- ---- what a module has and exports to itself
+
+pub own_right : (s : Site) (first whole sorted : List (List ℕ)) → first ≡ s.observed.declaration.packages → Adds first whole (Among (IsOwnExport s) s.observed.declaration.exports) → AreSorted whole sorted → AreOwn s sorted
+own_right s first whole sorted e adds order = record {
+  rise = order.rise;
+  only = λ p c. ⊎_elim (λ k. inl (subst (λ l. Contains l p) e k)) (λ h. let q = h.2 in inr (h.0, h.1, q.0, q.1)) (adds.only p (order.only p c));
+  all = λ p h. order.all p (⊎_elim (λ k. adds.keeps p (subst (λ l. Contains l p) (sym e) k)) (λ g. adds.all p (g.0, g.1, (g.2, g.3))) h);
+}
+
+module _ (s : Site) (own : List (List ℕ)) (es : List Exported) (right : AreOwn s own) where
+  pub seen_in : (p : List ℕ) → Contains own p ⊎ IsImported es p → IsSeen s es p
+  seen_in p h = ⊎_elim (λ c. ⊎_elim inl (λ g. inr (inl g)) (right.only p c)) (λ i. inr (inr i)) h
+
+  pub in_seen : (p : List ℕ) → IsSeen s es p → Contains own p ⊎ IsImported es p
+  in_seen p h = ⊎_elim (λ k. inl (right.all p (inl k))) (λ g. ⊎_elim (λ x. inl (right.all p (inr x))) inr g) h
 
 -- ---- what a reader does not see
 
