@@ -50,11 +50,7 @@ pub fn imports_of(
     Ok(imports)
 }
 
-fn exported_to(
-    alloc: Global,
-    sights: &Sights,
-    reading: &Reading,
-) -> Result<Vec<Exported>, CopyEnd>
+fn exported_to(alloc: Global, sights: &Sights, reading: &Reading) -> Result<Vec<Exported>, CopyEnd>
     requires { IsReading sights.now reading.now }
     ensures rise { IfOk result (λ exported. RisesBy exported_cmp exported.items) }
     ensures only { IfOk result (λ exported. (e : Exported) → Contains exported.items e → Among (IsExportedAt sights.now reading.now.reader) reading.now.read e) }

@@ -213,11 +213,7 @@ fn places_by_name(alloc: Global, sights: &Sights) -> Result<Vec<Placed>, CopyEnd
 }
 
 /// The places whose marks are set, in order.
-fn marked_places(
-    alloc: Global,
-    order: &[Placed],
-    marks: &[bool],
-) -> Result<Vec<usize>, CopyEnd>
+fn marked_places(alloc: Global, order: &[Placed], marks: &[bool]) -> Result<Vec<usize>, CopyEnd>
     ensures { IfOk result (λ places. places.items ≡ filter_map (marked_place marks.now) order.now) }
 {
     let mut places = Vec::new(alloc);

@@ -15,11 +15,7 @@ use jl_prim::{Copied, CopyEnd};
 use std::alloc::Global;
 
 /// Which module reads which, where none reads two of one name.
-pub fn reads_of(
-    alloc: Global,
-    sights: &Sights,
-    readings: &[Reading],
-) -> Result<Vec<Read>, CopyEnd>
+pub fn reads_of(alloc: Global, sights: &Sights, readings: &[Reading]) -> Result<Vec<Read>, CopyEnd>
     requires readings { AreReadings sights.now readings.now }
     requires apart { (f : ResolveFault) → SameNameFault sights.now f → ⊥ }
     ensures { IfOk result (λ reads. AreReads sights.now reads.items) }
