@@ -35,19 +35,31 @@ module _ (w : Scene) (apart : (f : ResolveFault) → SameNameFault w f → ⊥) 
       let e = place_read w r a q h d in
       let same : name_at w p ≡ name_at w q = names_exact (name_at w p) (name_at w q) tie in
       let named : site_name b.site ≡ site_name e.site = sym (ap option_name b.at) ∙ same ∙ ap option_name e.at in
-      apart (SameName (site_name a) (site_name e.site)) (a, b.site, e.site, h.member, refl, b.read, e.read, named, refl, λ f.
-      let one : p ≡ q = one_first w b.site e.site p q b.first e.first f named in
-      not_before_itself w q (subst (λ k. place_cmp w k q ≡ Less) one l))) l
+      apart (SameName (site_name a) (site_name e.site)) (
+        a,
+        b.site,
+        e.site,
+        h.member,
+        refl,
+        b.read,
+        e.read,
+        named,
+        refl,
+        λ f.
+            let one : p ≡ q = one_first w b.site e.site p q b.first e.first f named in
+            not_before_itself w q (subst (λ k. place_cmp w k q ≡ Less) one l),
+      )) l
 
   block_rises : (r : Reading) (a : Site) → IsReadingOf w r a → (ps : List ℕ) → ((p : ℕ) → Contains ps p → Contains r.read p) → RisesBy (place_cmp w) ps → RisesBy read_cmp (map (read_between w r.reader) ps)
   block_rises r a h [] within up = tt
-  block_rises r a h (p ∷ ps) within up =
-      (each_from_members (λ y. read_cmp (read_between w r.reader p) y ≡ Less) (map (read_between w r.reader) ps) (λ y c.
-      let q = from_map (read_between w r.reader) ps y c in
-      let less : name_cmp (name_at w p) (name_at w q.0) ≡ Less = names_apart r a p q.0 h (within p (contains_head p ps)) (within q.0 (contains_tail p q.0 ps q.1)) (each_of_member (λ k. place_cmp w p k ≡ Less) ps q.0 up.0 q.1) in
-      let tie : read_cmp (read_between w r.reader p) (read_between w r.reader q.0) ≡ name_cmp (name_at w p) (name_at w q.0) = ap (λ o. ordering_then o (name_cmp (name_at w p) (name_at w q.0))) (tied_itself nat_list_cmp_total (name_at w r.reader)) in
-      subst (λ z. read_cmp (read_between w r.reader p) z ≡ Less) q.2 (tie ∙ less)),
-      block_rises r a h ps (λ q c. within q (contains_tail p q ps c)) up.1)
+  block_rises r a h (p ∷ ps) within up = (
+    each_from_members (λ y. read_cmp (read_between w r.reader p) y ≡ Less) (map (read_between w r.reader) ps) (λ y c.
+        let q = from_map (read_between w r.reader) ps y c in
+        let less : name_cmp (name_at w p) (name_at w q.0) ≡ Less = names_apart r a p q.0 h (within p (contains_head p ps)) (within q.0 (contains_tail p q.0 ps q.1)) (each_of_member (λ k. place_cmp w p k ≡ Less) ps q.0 up.0 q.1) in
+        let tie : read_cmp (read_between w r.reader p) (read_between w r.reader q.0) ≡ name_cmp (name_at w p) (name_at w q.0) = ap (λ o. ordering_then o (name_cmp (name_at w p) (name_at w q.0))) (tied_itself nat_list_cmp_total (name_at w r.reader)) in
+        subst (λ z. read_cmp (read_between w r.reader p) z ≡ Less) q.2 (tie ∙ less)),
+    block_rises r a h ps (λ q c. within q (contains_tail p q ps c)) up.1,
+  )
 
   all_rise : (rs : List Reading) → ((r : Reading) → Contains rs r → (a : Site) × IsReadingOf w r a) → RisesBy (reading_cmp w) rs → RisesBy read_cmp (flat_map (reads_in w) rs)
   all_rise [] each up = tt

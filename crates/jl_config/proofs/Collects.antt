@@ -2,7 +2,7 @@
 use Rattle.std.proofs.Common.{◌≡◌, ◌≢◌, ◌<◌, ◌≤◌, ◌+◌, ◌⊎◌, ℕ, zero, suc, List, [], ◌∷◌, ◌++◌, length, take, get_or, inl, inr, ⊎_elim, refl, sym, ◌∙◌, ap, subst, Contains, Option, Some, None, Ordering, Less, Equal, Greater, arith}
 use Rattle.std.specs.Cmp.{IsTotalOrder}
 use Rattle.std.specs.Option.{option_map, option_cmp}
-use Rattle.std.specs.Ordering.{ordering_reverse}
+use Rattle.std.specs.Ordering.{ordering_then, ordering_reverse}
 use Rattle.std.specs.Cmp.Lexicographic.{options_total, nat_list_cmp_total}
 use Rattle.std.proofs.lemmas.Cmp.{on_total, then_total, nat_cmp_total, lists_total}
 use Rattle.std.proofs.lemmas.List.{take_more, take_all, get_or_default}
@@ -27,7 +27,7 @@ module _ {X : Type 0} where
   })
 
   -- what is added first and then
-  adds_then : (a b c : List X) (P Q R : X → Type 0) → Adds a b P → Adds b c Q → ((x : X) → P x → R x) → ((x : X) → Q x → R x) → ((x : X) → R x → P x ⊎ Q x) → Adds a c R
+  pub adds_then : (a b c : List X) (P Q R : X → Type 0) → Adds a b P → Adds b c Q → ((x : X) → P x → R x) → ((x : X) → Q x → R x) → ((x : X) → R x → P x ⊎ Q x) → Adds a c R
   adds_then a b c P Q R f g from_p from_q into = record {
     keeps = λ x k. g.keeps x (f.keeps x k);
     only = λ x k. ⊎_elim (λ m. ⊎_elim inl (λ p. inr (from_p x p)) (f.only x m)) (λ q. inr (from_q x q)) (g.only x k);
@@ -101,6 +101,12 @@ less_through o a b m Equal e n h = sym (o.congr b a m e) ∙ h
 less_through {X} {cmp} o a b m Greater e n h =
     let back : cmp a b ≡ Less = o.antisymm a b ∙ ap ordering_reverse e in
     o.trans a b m back h
+
+-- what orders of fields end with changes nothing
+pub then_equal : (o : Ordering) → ordering_then o Equal ≡ o
+then_equal Less = refl
+then_equal Equal = refl
+then_equal Greater = refl
 
 module _ {X : Type 0} (cmp : X → X → Ordering) (f : X → ResolveFault) (P : ResolveFault → Type 0) (xs : List X) where
   -- the least that was collected is the least refusal

@@ -31,3 +31,6 @@ pub mod SameNames
 pub mod AllReads
 pub mod ImportLists
 pub mod PackageFaults
+pub mod NameSearch
+pub mod ServiceFaults
+mod ReadingRows

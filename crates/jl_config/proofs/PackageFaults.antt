@@ -22,11 +22,11 @@ use Rattle.jl_config.specs.Places.{IsLeastSome, SamePackageFault, OwnPackageFaul
 use Rattle.jl_config.specs.Refusals.{Gets, Holds, Exports, IsSamePackage, IsOwnPackage, fault_cmp}
 use Rattle.jl_config.specs.ReadRows.{option_name, name_at}
 use Rattle.jl_config.specs.Collected.{Adds, Among}
-use Rattle.jl_config.specs.Imported.{exported_cmp, IsImportOf, AreImports, IsPackageSharedAt, IsPackageShared, IsOwnedIn, same_package_fault, own_package_fault}
+use Rattle.jl_config.specs.Imported.{exported_cmp, IsImportOf, AreImports, IsImport, IsPackageSharedAt, IsPackageShared, IsOwned, IsOwnedIn, same_package_fault, own_package_fault}
 use Rattle.jl_config.proofs.ReadLists.{contains_at}
 use Rattle.jl_config.proofs.ReadOrders.{same_some, site_exists}
 use Rattle.jl_config.proofs.SameNames.{rising_at, twin_after}
-use Rattle.jl_config.proofs.Collects.{least_fault, fault_not_less}
+use Rattle.jl_config.proofs.Collects.{then_equal, least_fault, fault_not_less}
 
 exported_total : IsTotalOrder exported_cmp
 exported_total = then_total (on_total (λ (e : Exported). e.«package») nat_list_cmp_total) (on_total (λ (e : Exported). e.exporter) nat_list_cmp_total)
@@ -68,10 +68,58 @@ shared_sound w m a c h s =
     let later = t.2 in
     let rise : name_cmp d.exporter e.exporter ≡ Less = exporters_rise d e t.5 (exports_rise w m a (s.0 - 1) s.0 d e h (omega arith) t.3 t.4) in
     let reader : site_name a ≡ name_at w m.reader = sym (named_reader w m a h) in
-    subst (λ (x : SharedPackage). IsSamePackage w (x.reader, x.«package», x.one, x.other)) (sym t.6)
-    (a, b.0, k.0, reader,
-    (h.member, b.1, subst (λ p. Exports b.0 p (site_name a)) t.5 b.2.0), (h.member, k.1, k.2.0), sym b.2.1, sym k.2.1,
-    (λ f. b.3 (sym b.2.1 ∙ f ∙ sym reader)), (λ f. k.3 (sym k.2.1 ∙ f ∙ sym reader)), less_apart d.exporter e.exporter rise)
+    subst (λ (x : SharedPackage). IsSamePackage w (x.reader, x.«package», x.one, x.other)) (sym t.6) (
+      a,
+      b.0,
+      k.0,
+      reader,
+      (h.member, b.1, subst (λ p. Exports b.0 p (site_name a)) t.5 b.2.0),
+      (h.member, k.1, k.2.0),
+      sym b.2.1,
+      sym k.2.1,
+      (λ f. b.3 (sym b.2.1 ∙ f ∙ sym reader)),
+      (λ f. k.3 (sym k.2.1 ∙ f ∙ sym reader)),
+      less_apart d.exporter e.exporter rise,
+    )
+
+-- ---- what a step of the search finds
+
+pub item_here : {X : Type 0} (xs ys : List X) (i : ℕ) (x : X) → ys ≡ xs → i < length xs → x ≡ get_or ys i x → slice_get xs i ≡ Some x
+item_here {X} xs ys i x e lt is = slice_get-get_or xs i x lt ∙ ap Some (sym (is ∙ ap (λ (l : List X). get_or l i x) e))
+
+module _ (w : Scene) (m : Imports) (i : ℕ) (d e : Exported) (later : 0 < i) (at : slice_get m.exported (i - 1) ≡ Some d) (be : slice_get m.exported i ≡ Some e) where
+  pub not_shared : (d.«package» ≡ e.«package» → ⊥) → (c : SharedPackage) → IsPackageSharedAt w m i c → ⊥
+  not_shared differ c h =
+      let f : h.0 ≡ d = same_some h.0 d (slice_get m.exported (i - 1)) h.3 at in
+      let g : h.1 ≡ e = same_some h.1 e (slice_get m.exported i) h.4 be in
+      differ (ap (λ (x : Exported). x.«package») (sym f) ∙ h.5 ∙ ap (λ (x : Exported). x.«package») g)
+
+  pub shared_here : d.«package» ≡ e.«package» → (c : SharedPackage) → c ≡ record { reader = name_at w m.reader; «package» = e.«package»; one = d.exporter; other = e.exporter } → IsPackageSharedAt w m i c
+  shared_here same c is = (d, e, later, at, be, same, is)
+
+  pub shared_only : (c : SharedPackage) → c ≡ record { reader = name_at w m.reader; «package» = e.«package»; one = d.exporter; other = e.exporter } → (x : SharedPackage) → IsPackageSharedAt w m i x → c ≡ x
+  shared_only c is x h =
+      let f : h.0 ≡ d = same_some h.0 d (slice_get m.exported (i - 1)) h.3 at in
+      let g : h.1 ≡ e = same_some h.1 e (slice_get m.exported i) h.4 be in
+      let k : x ≡ record { reader = name_at w m.reader; «package» = e.«package»; one = d.exporter; other = e.exporter } =
+      h.6 ∙ (λ t. record { reader = name_at w m.reader; «package» = (g t).«package»; one = (f t).exporter; other = (g t).exporter }) in
+      is ∙ sym k
+
+abbrev pub whole : List ℕ → List ℕ → List ℕ → List ℕ → SharedPackage
+whole r p o t = record { reader = r; «package» = p; one = o; other = t }
+
+pub shared_record : (r p o t s q n u : List ℕ) → r ≡ s → p ≡ q → o ≡ n → t ≡ u → whole r p o t ≡ whole s q n u
+shared_record r p o t s q n u a b c d = λ i. record { reader = a i; «package» = b i; one = c i; other = d i }
+
+pub import_within : (w : Scene) (m : Imports) → IsImport w m → m.reader < length w.sites
+import_within w m h = slice_get_within w.sites m.reader h.0 h.1.here
+
+module _ (w : Scene) (m : Imports) (s : Site) (at : slice_get w.sites m.reader ≡ Some s) where
+  pub owned_in : (c : OwnedPackage) → Among (IsOwned s) m.exported c → IsOwnedIn w m c
+  owned_in c h = (s, at, h.0, h.1, h.2)
+
+  pub owned_from : (c : OwnedPackage) → IsOwnedIn w m c → Among (IsOwned s) m.exported c
+  owned_from c h = let f : h.0 ≡ s = same_some h.0 s (slice_get w.sites m.reader) h.1 at in (h.2, h.3, subst (λ v. IsOwned v h.2 c) f h.4)
 
 -- ---- the least two
 
@@ -99,8 +147,18 @@ pair_after w m a i j d e h lt at be same =
     let n : i + 1 - 1 ≡ i = omega arith in
     record {
       second = y.exporter;
-      is = (i + 1, (d, y, omega arith, subst (λ q. slice_get m.exported q ≡ Some d) (sym n) at, next.1, key,
-      λ t. record { reader = sym (named_reader w m a h) t; «package» = (sym same ∙ key) t; one = d.exporter; other = y.exporter }));
+      is = (
+        i + 1,
+        (
+          d,
+          y,
+          omega arith,
+          subst (λ q. slice_get m.exported q ≡ Some d) (sym n) at,
+          next.1,
+          key,
+          λ t. record { reader = sym (named_reader w m a h) t; «package» = (sym same ∙ key) t; one = d.exporter; other = y.exporter },
+        ),
+      );
       least = ⊎_elim
           (λ far l.
           let f : name_cmp y.exporter e.exporter ≡ Less = exporters_rise y e (sym key ∙ same) (exports_rise w m a (i + 1) j y e h far next.1 be) in
@@ -135,15 +193,19 @@ shared_complete w ms reader p one other right s =
     let be = at_index m.0.exported e j in
     ⊎_elim
     (λ lt.
-    let pair = pair_after w m.0 a i.0 j.0 d e m.2 lt at be refl in
-    (record { reader = site_name a; «package» = p; one = site_name b; other = pair.second }, (m.0, m.1, pair.is),
-    first_pair reader p one other (site_name a) (site_name b) (site_name c) pair.second s.3 s.6 s.7 pair.least))
+    let pair = pair_after w m.0 a i.0 j.0 d e m.2 lt at be refl in (
+      record { reader = site_name a; «package» = p; one = site_name b; other = pair.second },
+      (m.0, m.1, pair.is),
+      first_pair reader p one other (site_name a) (site_name b) (site_name c) pair.second s.3 s.6 s.7 pair.least,
+    ))
     (λ le. ⊎_elim
     (λ gt.
     let pair = pair_after w m.0 a j.0 i.0 e d m.2 gt be at refl in
-    let less : name_cmp (site_name c) (site_name b) ≡ Less = exporters_rise e d refl (exports_rise w m.0 a j.0 i.0 e d m.2 gt be at) in
-    (record { reader = site_name a; «package» = p; one = site_name c; other = pair.second }, (m.0, m.1, pair.is),
-    second_pair reader p one other (site_name a) (site_name b) (site_name c) pair.second s.3 s.6 less))
+    let less : name_cmp (site_name c) (site_name b) ≡ Less = exporters_rise e d refl (exports_rise w m.0 a j.0 i.0 e d m.2 gt be at) in (
+      record { reader = site_name a; «package» = p; one = site_name c; other = pair.second },
+      (m.0, m.1, pair.is),
+      second_pair reader p one other (site_name a) (site_name b) (site_name c) pair.second s.3 s.6 less,
+    ))
     (λ ge.
     let f : i.0 ≡ j.0 = omega (arith, le, ge) in
     let g : d ≡ e = same_some d e (slice_get m.0.exported j.0) (subst (λ k. slice_get m.0.exported k ≡ Some d) f at) be in
@@ -153,22 +215,22 @@ shared_complete w ms reader p one other right s =
   where
     first_pair : (r p o t ar bn cn u : List ℕ) → ar ≡ r → bn ≡ o → cn ≡ t → name_cmp cn u ≢ Less → fault_cmp (SamePackage r p o t) (SamePackage ar p bn u) ≢ Less
     first_pair r p o t ar bn cn u e f g n l =
-        let h : fault_cmp (SamePackage ar p bn cn) (SamePackage ar p bn u) ≡ Less = rw (e, f, g) l in
+        let h : fault_cmp (SamePackage ar p bn cn) (SamePackage ar p bn u) ≡ Less =
+        subst (λ x. fault_cmp (SamePackage x p bn cn) (SamePackage ar p bn u) ≡ Less) (sym e)
+        (subst (λ x. fault_cmp (SamePackage r p x cn) (SamePackage ar p bn u) ≡ Less) (sym f)
+        (subst (λ x. fault_cmp (SamePackage r p o x) (SamePackage ar p bn u) ≡ Less) (sym g) l)) in
         let k : ordering_then (name_cmp bn bn) (ordering_then (name_cmp cn u) Equal) ≡ Less = sym (four ar p bn bn cn u) ∙ h in
         let z : ordering_then (name_cmp cn u) Equal ≡ Less = rw (tied_itself nat_list_cmp_total bn) at k in
         not_greater (name_cmp cn u) n z
 
     second_pair : (r p o t ar bn cn u : List ℕ) → ar ≡ r → bn ≡ o → name_cmp cn bn ≡ Less → fault_cmp (SamePackage r p o t) (SamePackage ar p cn u) ≢ Less
     second_pair r p o t ar bn cn u e f n l =
-        let h : fault_cmp (SamePackage ar p bn t) (SamePackage ar p cn u) ≡ Less = rw (e, f) l in
+        let h : fault_cmp (SamePackage ar p bn t) (SamePackage ar p cn u) ≡ Less =
+        subst (λ x. fault_cmp (SamePackage x p bn t) (SamePackage ar p cn u) ≡ Less) (sym e)
+        (subst (λ x. fault_cmp (SamePackage r p x t) (SamePackage ar p cn u) ≡ Less) (sym f) l) in
         let k : ordering_then (name_cmp bn cn) (ordering_then (name_cmp t u) Equal) ≡ Less = sym (four ar p bn cn t u) ∙ h in
         let z : ordering_then Greater (ordering_then (name_cmp t u) Equal) ≡ Less = rw (greater_back cn bn n) at k in
         absurd cc
-
-then_equal : (o : Ordering) → ordering_then o Equal ≡ o
-then_equal Less = refl
-then_equal Equal = refl
-then_equal Greater = refl
 
 pub least_shared : (w : Scene) (ms : List Imports) (found : List SharedPackage) (cmp : SharedPackage → SharedPackage → Ordering) (o : Option SharedPackage) → AreImports w ms → Adds [] found (Among (IsPackageShared w) ms)
     → IsLeastSome cmp (Contains found) o

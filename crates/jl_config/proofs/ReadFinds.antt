@@ -49,7 +49,7 @@ place_exists name (v ∷ ss) s e = by (place_exists name ss s) (is_text (site_na
 
 -- ---- by a configuration and a name
 
-same_number : (a b : ConfigId) → is_numbered a b ≡ true → a ≡ b
+pub same_number : (a b : ConfigId) → is_numbered a b ≡ true → a ≡ b
 same_number a b e = let n : a.0 ≡ b.0 = eqb-true a.0 b.0 e in λ i. record { 0 = n i }
 
 pub record SitedBy (config : ConfigId) (name : List ℕ) (ss : List Site) (p : ℕ) : Type 0 where

@@ -67,11 +67,14 @@ module _ (w : Scene) (marks : List Bool) (right : AreMarks w marks) where
   here_shows name p e =
       let o = open_shows w marks (place_named name w.sites) p e in
       let s = place_shows name w.sites p o.0 in
-      let opened : is_open_site w (get_or marks p false) (Some s.site) ≡ true = subst (λ (x : Option Site). is_open_site w (get_or marks p false) x ≡ true) s.at o.1 in
-      (s.site, placed_first w name p s.site o.0 s.at, record {
-        meant = s.found;
-        member = λ h. (right.only p s.site s.at (mark_set p s.site s.at (open_member w (get_or marks p false) s.site opened h))).0;
-      })
+      let opened : is_open_site w (get_or marks p false) (Some s.site) ≡ true = subst (λ (x : Option Site). is_open_site w (get_or marks p false) x ≡ true) s.at o.1 in (
+        s.site,
+        placed_first w name p s.site o.0 s.at,
+        record {
+          meant = s.found;
+          member = λ h. (right.only p s.site s.at (mark_set p s.site s.at (open_member w (get_or marks p false) s.site opened h))).0;
+        },
+      )
 
   is_kept : (b : Site) (p : ℕ) → slice_get w.sites p ≡ Some b → (IsTrue (is_here w b) → slice_get marks p ≡ Some true) → is_open w marks p ≡ true
   is_kept b p at h = rw at (by (is_here w b) refl)

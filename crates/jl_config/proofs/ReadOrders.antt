@@ -157,12 +157,14 @@ one_read w marks places p order reached r right members c sorted closed e f =
     let marked : get_or reached q false ≡ true = get_or_from_slice_get reached q true false d in
     into_filter_map (marked_place reached) order (placed w q) q (sorted.all q below) (ap (λ (b : Bool). cond b (Some q) None) marked) in
     let read : AreReadBy w a (filter_map (marked_place reached) order) = read_by_marks w marks right a p first reached (filter_map (marked_place reached) order) m shows has in
-    let up : RisesBy (place_cmp w) (filter_map (marked_place reached) order) = marked_rise w reached order (λ y d. (sorted.only y d).1) sorted.rise in
-    (a, record {
-      here = subst (λ q. slice_get w.sites q ≡ Some a) (sym e) s.1;
-      member = member.0;
-      reads = subst (IsRead w a) (sym f) (record { rise = up; read = read });
-    })
+    let up : RisesBy (place_cmp w) (filter_map (marked_place reached) order) = marked_rise w reached order (λ y d. (sorted.only y d).1) sorted.rise in (
+      a,
+      record {
+        here = subst (λ q. slice_get w.sites q ≡ Some a) (sym e) s.1;
+        member = member.0;
+        reads = subst (IsRead w a) (sym f) (record { rise = up; read = read });
+      },
+    )
 
 pub more_read : (w : Scene) (places : List ℕ) (i p : ℕ) (r : Reading) (old new : List Reading) → i < length places → p ≡ get_or places i 0 → r.reader ≡ p → (a : Site) × IsReadingOf w r a → new ≡ old ++ r ∷ []
     → AreRead w places i old → AreRead w places (i + 1) new
@@ -185,11 +187,12 @@ module _ (w : Scene) where
   readings_rise [] up each = tt
   readings_rise (r ∷ rs) up each =
       let first = each r (contains_head r rs) in
-      let opened : RisesBy site_cmp (cons_option (Some first.0) (sites_at w (map reader_of rs))) = subst (λ o. RisesBy site_cmp (cons_option o (sites_at w (map reader_of rs)))) first.1.here up in
-      (each_from_members (λ s. reading_cmp w r s ≡ Less) rs (λ s c.
-      let m = each s (contains_tail r s rs c) in
-      less_name r first.0 s m.0 first.1 m.1 (each_of_member (λ v. site_cmp first.0 v ≡ Less) (sites_at w (map reader_of rs)) m.0 opened.0 (contains_sites rs s m.0 c m.1))),
-      readings_rise rs opened.1 (λ s c. each s (contains_tail r s rs c)))
+      let opened : RisesBy site_cmp (cons_option (Some first.0) (sites_at w (map reader_of rs))) = subst (λ o. RisesBy site_cmp (cons_option o (sites_at w (map reader_of rs)))) first.1.here up in (
+        each_from_members (λ s. reading_cmp w r s ≡ Less) rs (λ s c.
+            let m = each s (contains_tail r s rs c) in
+            less_name r first.0 s m.0 first.1 m.1 (each_of_member (λ v. site_cmp first.0 v ≡ Less) (sites_at w (map reader_of rs)) m.0 opened.0 (contains_sites rs s m.0 c m.1))),
+        readings_rise rs opened.1 (λ s c. each s (contains_tail r s rs c)),
+      )
 
 pub place_contained : (places items : List ℕ) (i : ℕ) → items ≡ places → i < length items → Contains places (get_or items i 0)
 place_contained places items i e lt = subst (λ (l : List ℕ). Contains l (get_or items i 0)) e (contains_at items i (get_or items i 0) (slice_get-get_or items i 0 lt))

@@ -24,7 +24,7 @@ use Rattle.jl_config.specs.Collected.{Adds, Among, IsReading, read_name, IsShare
 use Rattle.jl_config.specs.Refusals.{IsSameName, fault_cmp}
 use Rattle.jl_config.proofs.ReadLists.{contains_at}
 use Rattle.jl_config.proofs.ReadOrders.{site_exists}
-use Rattle.jl_config.proofs.Collects.{least_fault, fault_not_less}
+use Rattle.jl_config.proofs.Collects.{then_equal, least_fault, fault_not_less}
 
 pub names_exact : (a b : List ℕ) → name_cmp a b ≡ Equal → a ≡ b
 names_exact a b e = (bytes_decides a b).0 (texts_ties a b ∙ ap is_eq e)
@@ -114,23 +114,35 @@ shared_sound w r a c h s =
     let named_b : site_name b.site ≡ c.name = sym (ap option_name b.at) ∙ at.same ∙ ap (λ (x : SharedName). x.name) (sym at.is) in
     let named_d : site_name d.site ≡ c.name = sym (ap option_name d.at) ∙ ap (λ (x : SharedName). x.name) (sym at.is) in
     let reader : site_name a ≡ c.reader = sym (reader_name w r a h) ∙ ap (λ (x : SharedName). x.reader) (sym at.is) in
-    let less : place_cmp w (get_or r.read (i - 1) 0) (get_or r.read i 0) ≡ Less = rising_at (place_cmp w) r.read h.reads.rise (i - 1) i 0 (omega arith) within in
-    (a, b.site, d.site, h.member, reader, b.read, d.read, named_b, named_d, λ e.
-    let same : get_or r.read (i - 1) 0 ≡ get_or r.read i 0 = one_first w b.site d.site (get_or r.read (i - 1) 0) (get_or r.read i 0) b.first d.first e (named_b ∙ sym named_d) in
-    not_before_itself w (get_or r.read i 0) (subst (λ p. place_cmp w p (get_or r.read i 0) ≡ Less) same less))
+    let less : place_cmp w (get_or r.read (i - 1) 0) (get_or r.read i 0) ≡ Less = rising_at (place_cmp w) r.read h.reads.rise (i - 1) i 0 (omega arith) within in (
+      a,
+      b.site,
+      d.site,
+      h.member,
+      reader,
+      b.read,
+      d.read,
+      named_b,
+      named_d,
+      λ e.
+          let same : get_or r.read (i - 1) 0 ≡ get_or r.read i 0 = one_first w b.site d.site (get_or r.read (i - 1) 0) (get_or r.read i 0) b.first d.first e (named_b ∙ sym named_d) in
+          not_before_itself w (get_or r.read i 0) (subst (λ p. place_cmp w p (get_or r.read i 0) ≡ Less) same less),
+    )
 
 -- the place behind that of one of two of a name
 shared_after : (w : Scene) (r : Reading) (i j : ℕ) (reader name : List ℕ) (a : Site) → IsReadingOf w r a → i < j → j < length r.read → read_name w r i ≡ name → read_name w r j ≡ name → site_name a ≡ reader
     → IsShared w r (record { reader = reader; name = name })
 shared_after w r i j reader name a h lt within e f g =
     let twin : read_name w r i ≡ read_name w r (i + 1) = twin_after (name_at w) nat_cmp r.read h.reads.rise i j 0 lt within (e ∙ sym f) in
-    let n : i + 1 - 1 ≡ i = omega arith in
-    (i + 1, record {
-      later = omega arith;
-      within = omega arith;
-      same = subst (λ k. read_name w r k ≡ read_name w r (i + 1)) (sym n) twin;
-      is = λ t. record { reader = (sym g ∙ sym (reader_name w r a h)) t; name = (sym e ∙ twin) t };
-    })
+    let n : i + 1 - 1 ≡ i = omega arith in (
+      i + 1,
+      record {
+        later = omega arith;
+        within = omega arith;
+        same = subst (λ k. read_name w r k ≡ read_name w r (i + 1)) (sym n) twin;
+        is = λ t. record { reader = (sym g ∙ sym (reader_name w r a h)) t; name = (sym e ∙ twin) t };
+      },
+    )
 
 pub shared_complete : (w : Scene) (rs : List Reading) (reader name : List ℕ) → AreReadings w rs → IsSameName w (reader, name) → Among (IsShared w) rs (record { reader = reader; name = name })
 shared_complete w rs reader name right s =
@@ -141,19 +153,22 @@ shared_complete w rs reader name right s =
     let p = r.2.reads.read.all b s.5 in
     let q = r.2.reads.read.all c s.6 in
     let first : read_name w r.0 p.1.0 ≡ name = ap (name_at w) (at_index r.0.read p.0 p.1) ∙ ap option_name p.2 ∙ s.7 in
-    let second : read_name w r.0 q.1.0 ≡ name = ap (name_at w) (at_index r.0.read q.0 q.1) ∙ ap option_name q.2 ∙ s.8 in
-    (r.0, r.1, ⊎_elim
-    (λ lt. shared_after w r.0 p.1.0 q.1.0 reader name a r.2 lt q.1.1 first second s.4)
-    (λ le. ⊎_elim
-    (λ gt. shared_after w r.0 q.1.0 p.1.0 reader name a r.2 gt p.1.1 second first s.4)
-    (λ ge.
-    let e : p.1.0 ≡ q.1.0 = omega (arith, le, ge) in
-    let f : p.0 ≡ q.0 = sym (at_index r.0.read p.0 p.1) ∙ ap (λ k. get_or r.0.read k 0) e ∙ at_index r.0.read q.0 q.1 in
-    let g : Some b ≡ Some c = sym p.2 ∙ ap (slice_get w.sites) f ∙ q.2 in
-    let same : b ≡ c = cc in
-    absurd (s.9 (ap (λ (v : Site). v.config) same)))
-    (cases_lt q.1.0 p.1.0))
-    (cases_lt p.1.0 q.1.0))
+    let second : read_name w r.0 q.1.0 ≡ name = ap (name_at w) (at_index r.0.read q.0 q.1) ∙ ap option_name q.2 ∙ s.8 in (
+      r.0,
+      r.1,
+      ⊎_elim
+          (λ lt. shared_after w r.0 p.1.0 q.1.0 reader name a r.2 lt q.1.1 first second s.4)
+          (λ le. ⊎_elim
+          (λ gt. shared_after w r.0 q.1.0 p.1.0 reader name a r.2 gt p.1.1 second first s.4)
+          (λ ge.
+          let e : p.1.0 ≡ q.1.0 = omega (arith, le, ge) in
+          let f : p.0 ≡ q.0 = sym (at_index r.0.read p.0 p.1) ∙ ap (λ k. get_or r.0.read k 0) e ∙ at_index r.0.read q.0 q.1 in
+          let g : Some b ≡ Some c = sym p.2 ∙ ap (slice_get w.sites) f ∙ q.2 in
+          let same : b ≡ c = cc in
+          absurd (s.9 (ap (λ (v : Site). v.config) same)))
+          (cases_lt q.1.0 p.1.0))
+          (cases_lt p.1.0 q.1.0),
+    )
   where
     at_index : (xs : List ℕ) (p : ℕ) → (c : Contains xs p) → get_or xs c.0 0 ≡ p
     at_index xs p c = get_or_default xs c.0 0 p c.1 ∙ c.2
@@ -164,17 +179,10 @@ pub least_same : (w : Scene) (rs : List Reading) (found : List SharedName) (cmp 
     → IsLeastSome cmp (Contains found) o → ((x y : SharedName) → cmp x y ≡ ordering_then (name_cmp x.reader y.reader) (name_cmp x.name y.name)) → IsLeastSome fault_cmp (SameNameFault w) (option_map same_name_fault o)
 least_same w rs found cmp o right adds least order =
     least_fault cmp same_name_fault (SameNameFault w) found o least
-    (λ x y. orders (name_cmp x.reader y.reader) (name_cmp x.name y.name) ∙ sym (order x y))
+    (λ x y. ap (λ z. ordering_then (name_cmp x.reader y.reader) z) (then_equal (name_cmp x.name y.name)) ∙ sym (order x y))
     (λ x c. ⊎_elim (λ n. contains_nothing x n) (λ h. let r = right.only h.0 h.1 in shared_sound w h.0 r.0 x r.1 h.2) (adds.only x c))
     complete
   where
-    orders : (a b : Ordering) → ordering_then a (ordering_then b Equal) ≡ ordering_then a b
-    orders Less b = refl
-    orders Equal Less = refl
-    orders Equal Equal = refl
-    orders Equal Greater = refl
-    orders Greater b = refl
-
     complete : (g : ResolveFault) → SameNameFault w g → (x : SharedName) × Contains found x × (fault_cmp g (same_name_fault x) ≢ Less)
     complete (SameName reader name) p = (record { reader = reader; name = name }, adds.all (record { reader = reader; name = name }) (shared_complete w rs reader name right p), fault_not_less (SameName reader name) (SameName reader name) refl)
     complete NoParents p = absurd p

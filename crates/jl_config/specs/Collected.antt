@@ -1,5 +1,6 @@
 -- What the searches over readings collect. No public clause cites these.
 use Rattle.std.specs.Prelude.{◌≡◌, ℕ, ◌-◌, ◌<◌, List, length, Contains, ◌⊎◌, slice_index_or}
+use Rattle.jl_logic.specs.Order.{name_cmp, RisesBy}
 use Rattle.jl_config.specs.declared.readings.Reading.{Reading}
 use Rattle.jl_config.specs.declared.same_name.SharedName.{SharedName}
 use Rattle.jl_config.specs.declared.fault.ResolveFault.{ResolveFault}
@@ -38,3 +39,11 @@ IsShared w r c = (i : ℕ) × IsSharedAt w r i c
 
 abbrev pub same_name_fault : SharedName → ResolveFault
 same_name_fault c = SameName c.reader c.name
+
+-- ---- names in order
+
+-- the same names, in order and each once
+pub record AreSorted (names sorted : List (List ℕ)) : Type 0 where
+  pub rise : RisesBy name_cmp sorted
+  pub only : (x : List ℕ) → Contains sorted x → Contains names x
+  pub all : (x : List ℕ) → Contains names x → Contains sorted x

@@ -74,6 +74,16 @@ IsOwnedIn w m c = (s : Site) × (slice_get w.sites m.reader ≡ Some s) × (e : 
 abbrev pub IsImported : List Exported → List ℕ → Type 0
 IsImported es p = (e : Exported) × Contains es e × (e.«package» ≡ p)
 
+-- a grant of the module s exports the package to itself
+abbrev pub IsOwnExport : Site → Grant → List ℕ → Type 0
+IsOwnExport s g p = (g.«package» ≡ p) × ReachesBy g.to (site_name s)
+
+-- the packages that the module s has, or exports to itself, in order
+pub record AreOwn (s : Site) (own : List (List ℕ)) : Type 0 where
+  pub rise : RisesBy name_cmp own
+  pub only : (p : List ℕ) → Contains own p → Holds s p ⊎ Exports s p (site_name s)
+  pub all : (p : List ℕ) → Holds s p ⊎ Exports s p (site_name s) → Contains own p
+
 -- the module s has the package, exports it to itself, or gets it
 abbrev pub IsSeen : Site → List Exported → List ℕ → Type 0
 IsSeen s es p = Holds s p ⊎ (Exports s p (site_name s) ⊎ IsImported es p)

@@ -6,12 +6,13 @@ use Rattle.std.specs.Cmp.Lexicographic.{pointwise}
 use Rattle.indexmap.specs.IndexMap.{IndexMap, get}
 use Rattle.jl_prim.specs.declared.declaration.Requires.{Requires}
 use Rattle.jl_prim.specs.declared.declaration.Provides.{Provides}
+use Rattle.jl_prim.specs.declared.declaration.Observed.{Observed}
 use Rattle.jl_logic.specs.Order.{is_text}
 use Rattle.jl_config.specs.declared.site.Site.{Site}
 use Rattle.jl_config.specs.declared.provisions.Provision.{Provision}
 use Rattle.jl_config.specs.Located.{Scene, site_name, is_here}
 use Rattle.jl_config.specs.Members.{is_followed}
-use Rattle.jl_config.specs.Places.{place_named}
+use Rattle.jl_config.specs.Places.{place_named, sites_at}
 
 abbrev pub here_at : Scene → ℕ → Bool
 here_at w p = option_map_or (is_here w) (slice_get w.sites p) false
@@ -86,3 +87,7 @@ abbrev pub cleared : Scene → List Site → List Bool → List Bool
 cleared w [] marks = []
 cleared w (s ∷ ss) [] = []
 cleared w (s ∷ ss) (mark ∷ marks) = (mark && is_here w s) ∷ cleared w ss marks
+
+-- the modules at places
+abbrev pub modules_at : Scene → List ℕ → List Observed
+modules_at w ps = map (λ (s : Site). s.observed) (sites_at w ps)

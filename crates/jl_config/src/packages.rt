@@ -2,7 +2,7 @@
 
 ghost use Rattle.std.specs.Prelude.{◌≡◌, ◌<◌, length, IfOk, OnOk};
 ghost use Rattle.std.specs.Option.{option_map};
-ghost use Rattle.jl_config.specs.Collected.{Adds};
+ghost use Rattle.jl_config.specs.Collected.{Adds, AreSorted};
 ghost use Rattle.jl_config.specs.Imported.{AreImports, IsImport, IsPackageSharedAt, IsPackageShared, IsOwned, IsOwnedIn, same_package_fault, own_package_fault};
 ghost use Rattle.jl_config.specs.Places.{IsLeastSome, SamePackageFault, OwnPackageFault};
 ghost use Rattle.jl_config.specs.Refusals.{fault_cmp};
@@ -12,7 +12,7 @@ use crate::imports::{Exported, Imports};
 use crate::same_name::name_at;
 use crate::sights::Sights;
 use crate::site::Site;
-use crate::sorted::least_of;
+use crate::sorted::{has_name, least_of, sorted_names};
 use jl_prim::{Copied, CopyEnd, Name};
 use std::alloc::Global;
 
@@ -43,8 +43,8 @@ pub fn least_same_package(
     ensures { IfOk result (λ found. IsLeastSome fault_cmp (SamePackageFault sights.now) found) }
 {
     let mut shared = Vec::new(alloc);
-    for own in imports {
-        push_shared(&mut shared, sights, own)?;
+    for imported in imports {
+        push_shared(&mut shared, sights, imported)?;
     }
     Ok(fault_of_shared(least_of(shared)))
 }
@@ -115,8 +115,8 @@ pub fn least_own_package(
     ensures { IfOk result (λ found. IsLeastSome fault_cmp (OwnPackageFault sights.now) found) }
 {
     let mut owned = Vec::new(alloc);
-    for own in imports {
-        push_owned_in(&mut owned, sights, own)?;
+    for imported in imports {
+        push_owned_in(&mut owned, sights, imported)?;
     }
     Ok(fault_of_owned(least_of(owned)))
 }
@@ -143,8 +143,9 @@ fn push_owned_in(
     ensures { OnOk result (Adds owned.old.items owned.new.items (IsOwnedIn sights.now imports.now)) }
 {
     let site = &sights.sites()[imports.reader];
+    let packages = sorted_names(site.observed.declaration.packages.copy()?.into_vec())?;
     for exported in imports.exported.as_slice() {
-        push_owned(owned, site, exported)?;
+        push_owned(owned, site, packages.as_slice(), exported)?;
     }
     Ok(())
 }
@@ -152,16 +153,17 @@ fn push_owned_in(
 fn push_owned(
     owned: &mut Vec<OwnedPackage>,
     site: &Site,
+    packages: &[Name],
     exported: &Exported,
 ) -> Result<(), CopyEnd>
+    requires { AreSorted site.now.observed.declaration.packages packages.now }
     ensures { OnOk result (Adds owned.old.items owned.new.items (IsOwned site.now exported.now)) }
 {
-    let declaration = &site.observed.declaration;
-    if !declaration.has_package(exported.package.as_bytes()) {
+    if !has_name(packages, exported.package.as_bytes()) {
         return Ok(());
     }
     owned.push(OwnedPackage {
-        reader: declaration.name.copy()?,
+        reader: site.observed.declaration.name.copy()?,
         package: exported.package.copy()?,
         other: exported.exporter.copy()?,
     })?;

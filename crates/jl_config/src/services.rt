@@ -1,22 +1,21 @@
 //! Services whose packages are not read.
 
-ghost use Rattle.std.specs.Prelude.{◌≡◌, ◌↔◌, IfOk, OnOk, IsTrue};
+ghost use Rattle.std.specs.Prelude.{◌≡◌, ◌↔◌, ◌⊎◌, IfOk, OnOk, IsTrue, Contains};
 ghost use Rattle.std.specs.Option.{option_map};
-ghost use Rattle.jl_logic.specs.Order.{RisesBy};
+ghost use Rattle.jl_logic.specs.Order.{name_cmp, RisesBy};
 ghost use Rattle.jl_config.specs.Collected.{Adds, Among};
-ghost use Rattle.jl_config.specs.Imported.{AreImports, IsImport, IsImported, IsSeen, IsUnseen, IsUnseenProvided, IsUnseenIn, exported_cmp, service_fault};
-ghost use Rattle.jl_config.specs.Located.{site_name};
+ghost use Rattle.jl_config.specs.Imported.{AreImports, IsImport, IsImported, IsOwnExport, AreOwn, IsUnseen, IsUnseenProvided, IsUnseenIn, exported_cmp, service_fault};
 ghost use Rattle.jl_config.specs.Places.{IsLeastSome, SameNameFault, ServiceFault};
-ghost use Rattle.jl_config.specs.Refusals.{Exports, fault_cmp};
+ghost use Rattle.jl_config.specs.Refusals.{fault_cmp};
 ghost use Rattle.jl_config.specs.declared.fault.ResolveFault.{ResolveFault};
 
 use crate::fault::ResolveFault;
 use crate::imports::{Exported, Imports, reaches};
 use crate::sights::Sights;
 use crate::site::Site;
-use crate::sorted::least_of;
+use crate::sorted::{has_name, least_of, sorted_names};
 use jl_names::package_of;
-use jl_prim::{Copied, CopyEnd, Name};
+use jl_prim::{Copied, CopyEnd, Grant, Name};
 use std::alloc::Global;
 
 /// A module uses or provides a service whose package it neither has nor gets.
@@ -38,8 +37,8 @@ pub fn least_service(
     ensures { IfOk result (λ found. IsLeastSome fault_cmp (ServiceFault sights.now) found) }
 {
     let mut unseen = Vec::new(alloc);
-    for own in imports {
-        push_unseen_in(&mut unseen, sights, own)?;
+    for imported in imports {
+        push_unseen_in(&mut unseen, sights, imported)?;
     }
     Ok(fault_of(least_of(unseen)))
 }
@@ -65,22 +64,25 @@ fn push_unseen_in(
     ensures { OnOk result (Adds unseen.old.items unseen.new.items (IsUnseenIn sights.now imports.now)) }
 {
     let site = &sights.sites()[imports.reader];
+    let own = own_packages(site)?;
     let exported = imports.exported.as_slice();
-    push_unseen_uses(unseen, site, exported)?;
-    push_unseen_provides(unseen, site, exported)?;
+    push_unseen_uses(unseen, site, own.as_slice(), exported)?;
+    push_unseen_provides(unseen, site, own.as_slice(), exported)?;
     Ok(())
 }
 
 fn push_unseen_uses(
     unseen: &mut Vec<UnseenService>,
     site: &Site,
+    own: &[Name],
     exported: &[Exported],
 ) -> Result<(), CopyEnd>
-    requires { RisesBy exported_cmp exported.now }
+    requires own { AreOwn site.now own.now }
+    requires exported { RisesBy exported_cmp exported.now }
     ensures { OnOk result (Adds unseen.old.items unseen.new.items (Among (IsUnseen site.now exported.now) site.now.observed.declaration.uses)) }
 {
     for service in site.observed.declaration.uses.as_slice() {
-        push_unseen(unseen, site, exported, service)?;
+        push_unseen(unseen, site, own, exported, service)?;
     }
     Ok(())
 }
@@ -88,13 +90,15 @@ fn push_unseen_uses(
 fn push_unseen_provides(
     unseen: &mut Vec<UnseenService>,
     site: &Site,
+    own: &[Name],
     exported: &[Exported],
 ) -> Result<(), CopyEnd>
-    requires { RisesBy exported_cmp exported.now }
+    requires own { AreOwn site.now own.now }
+    requires exported { RisesBy exported_cmp exported.now }
     ensures { OnOk result (Adds unseen.old.items unseen.new.items (Among (IsUnseenProvided site.now exported.now) site.now.observed.declaration.provides)) }
 {
     for provided in site.observed.declaration.provides.as_slice() {
-        push_unseen(unseen, site, exported, &provided.service)?;
+        push_unseen(unseen, site, own, exported, &provided.service)?;
     }
     Ok(())
 }
@@ -102,13 +106,15 @@ fn push_unseen_provides(
 fn push_unseen(
     unseen: &mut Vec<UnseenService>,
     site: &Site,
+    own: &[Name],
     exported: &[Exported],
     service: &Name,
 ) -> Result<(), CopyEnd>
-    requires { RisesBy exported_cmp exported.now }
+    requires own { AreOwn site.now own.now }
+    requires exported { RisesBy exported_cmp exported.now }
     ensures { OnOk result (Adds unseen.old.items unseen.new.items (IsUnseen site.now exported.now service.now)) }
 {
-    if sees(site, exported, package_of(service.as_bytes())) {
+    if sees(own, exported, package_of(service.as_bytes())) {
         return Ok(());
     }
     unseen.push(UnseenService {
@@ -118,22 +124,41 @@ fn push_unseen(
     Ok(())
 }
 
-/// Whether a module has a package, exports it to itself, or gets it.
-fn sees(site: &Site, exported: &[Exported], name: &[u8]) -> bool
-    requires { RisesBy exported_cmp exported.now }
-    ensures { IsTrue result ↔ IsSeen site.now exported.now name.now }
+/// Whether a package is one of those that a module has or exports to itself, or one that it gets.
+fn sees(own: &[Name], exported: &[Exported], name: &[u8]) -> bool
+    requires own { RisesBy name_cmp own.now }
+    requires exported { RisesBy exported_cmp exported.now }
+    ensures { IsTrue result ↔ Contains own.now name.now ⊎ IsImported exported.now name.now }
 {
-    site.observed.declaration.has_package(name)
-        || exports_to_itself(site, name)
-        || is_imported(exported, name)
+    has_name(own, name) || is_imported(exported, name)
 }
 
-fn exports_to_itself(site: &Site, name: &[u8]) -> bool
-    ensures { IsTrue result ↔ Exports site.now name.now (site_name site.now) }
+/// The packages that a module has or exports to itself, in order.
+fn own_packages(site: &Site) -> Result<Vec<Name>, CopyEnd>
+    ensures { IfOk result (λ own. AreOwn site.now own.items) }
 {
+<<<<<<< HEAD
     let declaration = &site.observed.declaration;
     declaration.exports.as_slice().iter().any(|grant| grant.package.as_bytes() == name
         && reaches(grant, &declaration.name))
+=======
+    let mut own = site.observed.declaration.packages.copy()?.into_vec();
+    for grant in site.observed.declaration.exports.as_slice() {
+        push_own_export(&mut own, site, grant)?;
+    }
+    let sorted = sorted_names(own)?;
+    Ok(sorted)
+}
+
+fn push_own_export(own: &mut Vec<Name>, site: &Site, grant: &Grant) -> Result<(), CopyEnd>
+    ensures { OnOk result (Adds own.old.items own.new.items (IsOwnExport site.now grant.now)) }
+{
+    if !reaches(grant, &site.observed.declaration.name) {
+        return Ok(());
+    }
+    own.push(grant.package.copy()?)?;
+    Ok(())
+>>>>>>> 4548a708da8945be95d3d68e30c2c0b2ea95594b
 }
 
 fn is_imported(exported: &[Exported], name: &[u8]) -> bool

@@ -1,8 +1,7 @@
-use Rattle.std.proofs.Common.{◌≡◌, ◌∙◌, sym, ap, subst, ⊎_elim, List, ℕ, []}
+use Rattle.std.proofs.Common.{subst, ⊎_elim, []}
 use Rattle.jl_logic.proofs.Rising.{contains_nothing}
 use Rattle.jl_config.specs.Collected.{Adds, Among}
 use Rattle.jl_config.specs.Imported.{IsExportedAt}
-use Rattle.jl_config.specs.declared.imports.Exported.{Exported}
 use Rattle.jl_config.proofs.Collects.{number_more, among_all}
 use Rattle.jl_config.proofs.ImportLists.{exported_exact}
 use Rattle.jl_config.proofs.ReadOrders.{from_any}
@@ -11,7 +10,6 @@ use Rattle.jl_config.proofs.imports.exported_to.Goals as goal
 pub loop-place-preserved : goal.loop-place-preserved
 loop-place-preserved c =
     number_more (IsExportedAt c.args.sights.now c.args.reading.now.reader) c.as_slice-place-items.result.now c.loop-place.place-index _ c.loop-place.exported.items _ c.loop-place-test.true c.loop-place.invariant c.in_ok-push_exports_at.ensures
-
 
 pub returns-clause-only : goal.returns-clause-only
 returns-clause-only c = λ e k.

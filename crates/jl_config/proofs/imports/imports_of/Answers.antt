@@ -1,6 +1,6 @@
-use Rattle.std.proofs.Common.{◌≡◌, ◌∙◌, sym, ap, subst, refl}
+use Rattle.std.proofs.Common.{sym, subst, refl}
 use Rattle.jl_config.proofs.Collects.{item_among}
-use Rattle.jl_config.proofs.ImportLists.{no_imports, one_import, more_imports, all_imports}
+use Rattle.jl_config.proofs.ImportLists.{one_import, more_imports, all_imports}
 use Rattle.jl_config.specs.Imported.{IsImport}
 use Rattle.jl_config.specs.declared.imports.Imports.{Imports}
 use Rattle.jl_config.proofs.imports.imports_of.Goals as goal

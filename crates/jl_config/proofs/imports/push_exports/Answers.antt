@@ -1,4 +1,4 @@
-use Rattle.std.proofs.Common.{◌≡◌, sym, ap, subst, List}
+use Rattle.std.proofs.Common.{subst}
 use Rattle.jl_config.specs.Collected.{Adds, Among}
 use Rattle.jl_config.specs.Imported.{IsGranted, IsExportedBy}
 use Rattle.jl_config.proofs.Collects.{among_more, among_all, adds_same}

@@ -1,4 +1,4 @@
-use Rattle.std.proofs.Common.{refl, ◌≡◌, ◌≤◌, length, ap, subst}
+use Rattle.std.proofs.Common.{refl, ◌≤◌, length, subst}
 use Rattle.jl_config.proofs.ReadOrders.{placed_none, placed_more, placed_sorted, placed_exact}
 use Rattle.jl_config.proofs.readings.places_by_name.Goals as goal
 

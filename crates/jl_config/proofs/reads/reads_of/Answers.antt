@@ -1,4 +1,3 @@
-use Rattle.std.proofs.Common.{refl}
 use Rattle.jl_config.specs.ReadRows.{reads_in}
 use Rattle.jl_config.proofs.ReadLists.{flat_map_step}
 use Rattle.jl_config.proofs.Collects.{item_among}
