@@ -137,11 +137,6 @@ fn sees(own: &[Name], exported: &[Exported], name: &[u8]) -> bool
 fn own_packages(site: &Site) -> Result<Vec<Name>, CopyEnd>
     ensures { IfOk result (λ own. AreOwn site.now own.items) }
 {
-<<<<<<< HEAD
-    let declaration = &site.observed.declaration;
-    declaration.exports.as_slice().iter().any(|grant| grant.package.as_bytes() == name
-        && reaches(grant, &declaration.name))
-=======
     let mut own = site.observed.declaration.packages.copy()?.into_vec();
     for grant in site.observed.declaration.exports.as_slice() {
         push_own_export(&mut own, site, grant)?;
@@ -158,7 +153,6 @@ fn push_own_export(own: &mut Vec<Name>, site: &Site, grant: &Grant) -> Result<()
     }
     own.push(grant.package.copy()?)?;
     Ok(())
->>>>>>> 4548a708da8945be95d3d68e30c2c0b2ea95594b
 }
 
 fn is_imported(exported: &[Exported], name: &[u8]) -> bool
