@@ -28,3 +28,6 @@ pub use fault::ResolveFault;
 pub use law::{refuses_where_one_holds, resolves_always, resolves_once};
 pub use resolution::resolve;
 pub use site::Site;
+
+#[cfg(test)]
+mod tests;
