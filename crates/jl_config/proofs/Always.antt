@@ -1,165 +1,224 @@
--- A resolution always has an answer: each part of it is made.
-use Rattle.std.proofs.Common.{◌≡◌, ◌≢◌, ◌⊎◌, ◌<◌, ◌≤◌, ◌+◌, ◌-◌, ℕ, zero, suc, List, [], ◌∷◌, ◌++◌, length, get_or, take, slice_get, map, inl, inr, ⊎_elim, refl, sym, ◌∙◌, ap, subst, Contains, Option, Some, None, Bool, true, false, cond, nat_eq, Ordering, Less, Equal, Greater, Result, Ok, Err, append_assoc, arith}
-use Rattle.std.specs.List.{AllByRecursion}
-use Rattle.std.specs.Ordering.{ordering_reverse}
-use Rattle.std.specs.Cmp.Lexicographic.{pointwise}
-use Rattle.std.proofs.lemmas.List.{take_more, append-nil}
-use Rattle.std.proofs.lemmas.Option.{slice_get-get_or}
+-- A resolution always has an answer: of the refusals that apply the least, or the graph; so it is refused where one applies.
+use Rattle.std.proofs.Common.{◌≡◌, ◌≢◌, ◌⊎◌, ◌≤◌, ◌+◌, ℕ, List, [], ◌∷◌, length, inl, inr, refl, sym, ◌∙◌, ap, subst, Option, Equal, Result, Ok, Err, eqb-true}
 use Rattle.jl_prim.specs.declared.numbers.ConfigId.{ConfigId}
 use Rattle.jl_prim.specs.declared.declaration.Observed.{Observed}
-use Rattle.jl_logic.specs.Order.{name_cmp, RisesBy}
-use Rattle.jl_logic.proofs.Rising.{rises_between}
-use Rattle.jl_closure.specs.Reached.{AreMarksOf}
-use Rattle.jl_closure.proofs.Always.{marks_exist}
+use Rattle.jl_logic.specs.Order.{IsLeast}
 use Rattle.jl_config.specs.declared.configuration.Read.{Read}
 use Rattle.jl_config.specs.declared.fault.ResolveFault.{ResolveFault}
-use Rattle.jl_config.specs.declared.fault.ResolveFault.TheVariants.{NotFound, NoMemory}
-use Rattle.jl_config.specs.declared.places.Entries.TheVariants.{Every, Followed, PassedOn}
+use Rattle.jl_config.specs.declared.fault.ResolveFault.TheVariants.{NoParents, NotFound, TooMany, Cycle, SameName, SamePackage, OwnPackage, ServicePackage, NoMemory}
+use Rattle.jl_config.specs.declared.site.Site.{Site}
 use Rattle.jl_config.specs.Graphs.{Graph}
-use Rattle.jl_config.specs.Members.{name_of, find_named}
-use Rattle.jl_config.specs.Missing.{least_from, all_missing}
-use Rattle.jl_config.specs.Places.{IsUniverse, AreMembers, AreReads, AreReadBy, place_named, rows, root_places, entry_places, kept}
-use Rattle.jl_config.specs.Resolves.{Resolves, module_cmp, read_of}
-use Rattle.jl_config.proofs.Finds.{modules_total, tied_same, less_differs, greater_differs, less_back, not_added, moved, found_in_parts}
-use Rattle.jl_config.proofs.Chains.{members_right, read_by_right, rows_within, rows_long, roots_within, reader_within, starts_given}
-use Rattle.jl_config.proofs.Grown.{reads_none, reads_more, reads_all}
-use Rattle.jl_config.proofs.Whole.{resolved, least_right}
+use Rattle.jl_config.specs.Laws.{ResolvesAlways, RefusesWhereOneHolds}
+use Rattle.jl_config.specs.Located.{Asked, Scene, scene_of, id_of, name_of, site_name}
+use Rattle.jl_config.specs.Members.{IsMember, Reads}
+use Rattle.jl_config.specs.Orders.{module_cmp, read_cmp}
+use Rattle.jl_config.specs.Refusals.{IsMissing, IsLarge, most, IsOnCircle, IsSameName, IsSamePackage, IsOwnPackage, IsServicePackage, Applies, fault_cmp}
+use Rattle.jl_config.specs.Resolves.{Resolves, AreModules, AreReads, IsGraphOf, read_of, new_site}
+use Rattle.jl_config.proofs.FaultOrder.{fault_total, modules_total, reads_total, names_exact, reads_exact}
+use Rattle.jl_config.proofs.FaultListings.{missing_listed, decided_large, same_name_listed, same_package_listed, own_package_listed, service_listed}
+use Rattle.jl_config.proofs.DeclaredLists.{decided_config}
+use Rattle.jl_config.proofs.Listed.{Lists, all_listed}
+use Rattle.jl_config.proofs.FoundPlaces.{one_of_name, member_found}
+use Rattle.jl_config.proofs.Listings.{Listing, Decided, decided_either, decided_less, listing_each, listing_same, listing_either, listing_if, listing_map}
+use Rattle.jl_config.proofs.RisingLists.{Rising, sorted, least_or_none}
+use Rattle.jl_config.proofs.Unique.{least_told, told_by_least}
 
--- ---- the first module of each name, in order
+-- ---- the refusals that apply
 
--- a list that rises, cut where a module of another name belongs
-pub record Cut (os : List Observed) (o : Observed) : Type 0 where
-  pub low : List Observed
-  pub high : List Observed
-  pub whole : os ≡ low ++ high
-  pub below : AllByRecursion (λ w. module_cmp w o ≡ Less) low
-  pub above : AllByRecursion (λ w. module_cmp o w ≡ Less) high
+-- one of a kind, made of what the property holds for
+abbrev Made : {X : Type 0} → (X → Type 0) → (X → ResolveFault) → ResolveFault → Type 0
+Made {X} P make f = (x : X) × P x × (make x ≡ f)
 
-above_all : (o w : Observed) (ws : List Observed) → module_cmp o w ≡ Less → AllByRecursion (λ v. module_cmp w v ≡ Less) ws → AllByRecursion (λ v. module_cmp o v ≡ Less) ws
-above_all o w [] less up = tt
-above_all o w (v ∷ vs) less up = (modules_total.trans o w v less up.0, above_all o w vs less up.1)
+abbrev pub IsTooMany : Asked → Type 0
+IsTooMany q = IsLarge (scene_of q) ⊎ (most ≤ length q.known)
 
-none_behind : (name : List ℕ) (w : Observed) (ws : List Observed) → pointwise nat_eq (name_of w) name ≡ false → place_named name (w ∷ ws) ≡ None → place_named name ws ≡ None
-none_behind name w ws differ e = by (place_named name ws) refl
+abbrev not_found : List ℕ × Option (List ℕ) → ResolveFault
+not_found m = NotFound m.0 m.1
+
+abbrev same_name : List ℕ × List ℕ → ResolveFault
+same_name m = SameName m.0 m.1
+
+abbrev same_package : List ℕ × List ℕ × List ℕ × List ℕ → ResolveFault
+same_package m = SamePackage m.0 m.1 m.2 m.3
+
+abbrev own_package : List ℕ × List ℕ × List ℕ → ResolveFault
+own_package m = OwnPackage m.0 m.1 m.2
+
+abbrev service_package : List ℕ × List ℕ → ResolveFault
+service_package m = ServicePackage m.0 m.1
+
+-- of packages and services
+abbrev LaterKind : Asked → ResolveFault → Type 0
+LaterKind q f = Made (IsSameName (scene_of q)) same_name f
+    ⊎ (Made (IsSamePackage (scene_of q)) same_package f
+    ⊎ (Made (IsOwnPackage (scene_of q)) own_package f
+    ⊎ Made (IsServicePackage (scene_of q)) service_package f))
+
+abbrev Kind : Asked → ResolveFault → Type 0
+Kind q f = ((q.parents ≡ []) × (NoParents ≡ f))
+    ⊎ (Made (IsMissing (scene_of q)) not_found f
+    ⊎ ((IsTooMany q × (TooMany ≡ f))
+    ⊎ (Made (IsOnCircle (scene_of q)) Cycle f
+    ⊎ LaterKind q f)))
+
+later_applies : (q : Asked) (f : ResolveFault) → LaterKind q f → Applies q f
+later_applies q f (inl k) = subst (Applies q) k.2 k.1
+later_applies q f (inr (inl k)) = subst (Applies q) k.2 k.1
+later_applies q f (inr (inr (inl k))) = subst (Applies q) k.2 k.1
+later_applies q f (inr (inr (inr k))) = subst (Applies q) k.2 k.1
+
+kind_applies : (q : Asked) (f : ResolveFault) → Kind q f → Applies q f
+kind_applies q f (inl k) = subst (Applies q) k.1 k.0
+kind_applies q f (inr (inl k)) = subst (Applies q) k.2 k.1
+kind_applies q f (inr (inr (inl k))) = subst (Applies q) k.1 k.0
+kind_applies q f (inr (inr (inr (inl k)))) = subst (Applies q) k.2 k.1
+kind_applies q f (inr (inr (inr (inr k)))) = later_applies q f k
+
+applies_kind : (q : Asked) (f : ResolveFault) → Applies q f → Kind q f
+applies_kind q NoParents k = inl (k, refl)
+applies_kind q (NotFound name by) k = inr (inl ((name, by), k, refl))
+applies_kind q TooMany k = inr (inr (inl (k, refl)))
+applies_kind q (Cycle least) k = inr (inr (inr (inl (least, k, refl))))
+applies_kind q (SameName reader name) k = inr (inr (inr (inr (inl ((reader, name), k, refl)))))
+applies_kind q (SamePackage reader p one other) k = inr (inr (inr (inr (inr (inl ((reader, p, one, other), k, refl))))))
+applies_kind q (OwnPackage reader p other) k = inr (inr (inr (inr (inr (inr (inl ((reader, p, other), k, refl)))))))
+applies_kind q (ServicePackage name service) k = inr (inr (inr (inr (inr (inr (inr ((name, service), k, refl)))))))
+applies_kind q NoMemory k = absurd k
+
+decided_no_parents : (ps : List ConfigId) → Decided (ps ≡ [])
+decided_no_parents [] = inl refl
+decided_no_parents (p ∷ ps) = inr (λ e. absurd cc)
+
+later_listed : (q : Asked) → Lists (scene_of q) → Listing (LaterKind q)
+later_listed q lists =
+    listing_either (Made (IsSameName (scene_of q)) same_name) (λ f. Made (IsSamePackage (scene_of q)) same_package f ⊎ (Made (IsOwnPackage (scene_of q)) own_package f ⊎ Made (IsServicePackage (scene_of q)) service_package f))
+    (listing_map (IsSameName (scene_of q)) same_name (same_name_listed (scene_of q) lists))
+    (listing_either (Made (IsSamePackage (scene_of q)) same_package) (λ f. Made (IsOwnPackage (scene_of q)) own_package f ⊎ Made (IsServicePackage (scene_of q)) service_package f)
+    (listing_map (IsSamePackage (scene_of q)) same_package (same_package_listed (scene_of q) lists))
+    (listing_either (Made (IsOwnPackage (scene_of q)) own_package) (Made (IsServicePackage (scene_of q)) service_package)
+    (listing_map (IsOwnPackage (scene_of q)) own_package (own_package_listed (scene_of q) lists))
+    (listing_map (IsServicePackage (scene_of q)) service_package (service_listed (scene_of q) lists))))
+
+decided_too_many : (q : Asked) → Lists (scene_of q) → Decided (IsTooMany q)
+decided_too_many q lists = decided_either (IsLarge (scene_of q)) (most ≤ length q.known) (decided_large (scene_of q) lists) (decided_most (length q.known))
   where
-    by : (p : Option ℕ) → place_named name ws ≡ p → place_named name ws ≡ None
-    by None f = f
-    by (Some p) f =
-        let here : place_named name (w ∷ ws) ≡ Some (p + 1) = rw (differ, f) refl in
-        absurd cc
+    decided_most : (n : ℕ) → Decided (most ≤ n)
+    decided_most n = decided_less 4095 n
 
-some_here : (name : List ℕ) (w : Observed) (ws : List Observed) → pointwise nat_eq (name_of w) name ≡ true → place_named name (w ∷ ws) ≡ None → ⊥
-some_here name w ws same e =
-    let here : place_named name (w ∷ ws) ≡ Some 0 = rw same refl in
-    absurd cc
+faults_listed : (q : Asked) → Lists (scene_of q) → Listing (Applies q)
+faults_listed q lists =
+    listing_same (Kind q) (Applies q) (kind_applies q) (applies_kind q)
+    (listing_either (λ f. (q.parents ≡ []) × (NoParents ≡ f)) (λ f. Made (IsMissing (scene_of q)) not_found f ⊎ ((IsTooMany q × (TooMany ≡ f)) ⊎ (Made (IsOnCircle (scene_of q)) Cycle f ⊎ LaterKind q f)))
+    (listing_if (q.parents ≡ []) NoParents (decided_no_parents q.parents))
+    (listing_either (Made (IsMissing (scene_of q)) not_found) (λ f. (IsTooMany q × (TooMany ≡ f)) ⊎ (Made (IsOnCircle (scene_of q)) Cycle f ⊎ LaterKind q f))
+    (listing_map (IsMissing (scene_of q)) not_found (missing_listed (scene_of q) lists))
+    (listing_either (λ f. IsTooMany q × (TooMany ≡ f)) (λ f. Made (IsOnCircle (scene_of q)) Cycle f ⊎ LaterKind q f)
+    (listing_if (IsTooMany q) TooMany (decided_too_many q lists))
+    (listing_either (Made (IsOnCircle (scene_of q)) Cycle) (LaterKind q)
+    (listing_map (IsOnCircle (scene_of q)) Cycle lists.circles)
+    (later_listed q lists)))))
 
-cut_by : (w : Observed) (ws : List Observed) (o : Observed) (c : Ordering) → module_cmp w o ≡ c → RisesBy module_cmp (w ∷ ws) → place_named (name_of o) (w ∷ ws) ≡ None → (place_named (name_of o) ws ≡ None → Cut ws o) → Cut (w ∷ ws) o
-cut_by w ws o Less f up e more =
-    let rest = more (none_behind (name_of o) w ws (less_differs (name_of w) (name_of o) f) e) in
-    record { low = w ∷ rest.low; high = rest.high; whole = ap (λ (l : List Observed). w ∷ l) rest.whole; below = (f, rest.below); above = rest.above }
-cut_by w ws o Equal f up e more = absurd (some_here (name_of o) w ws (tied_same (name_of w) (name_of o) f) e)
-cut_by w ws o Greater f up e more =
-    let less : module_cmp o w ≡ Less = less_back (name_of w) (name_of o) f in
-    record { low = []; high = w ∷ ws; whole = refl; below = tt; above = (less, above_all o w ws less up.0) }
+-- ---- the modules
 
-cut_at : (os : List Observed) (o : Observed) → RisesBy module_cmp os → place_named (name_of o) os ≡ None → Cut os o
-cut_at [] o up e = record { low = []; high = []; whole = refl; below = tt; above = tt }
-cut_at (w ∷ ws) o up e = cut_by w ws o (module_cmp w o) refl up e (λ k. cut_at ws o up.1 k)
+abbrev OfMember : Scene → Observed → Type 0
+OfMember w o = (s : Site) × IsMember w s × (s.observed ≡ o)
 
-differ_above : (o : Observed) (ws : List Observed) → AllByRecursion (λ w. module_cmp o w ≡ Less) ws → AllByRecursion (λ w. pointwise nat_eq (name_of w) (name_of o) ≡ false) ws
-differ_above o [] h = tt
-differ_above o (w ∷ ws) h = (greater_differs (name_of w) (name_of o) (modules_total.antisymm w o ∙ ap ordering_reverse h.0), differ_above o ws h.1)
+modules_tied : (w : Scene) (o p : Observed) → OfMember w o → OfMember w p → module_cmp o p ≡ Equal → o ≡ p
+modules_tied w o p k m e =
+    let names : name_of o ≡ name_of p = names_exact (name_of o) (name_of p) e in
+    let same : k.0 ≡ m.0 = one_of_name w k.0 m.0 k.1 m.1 (ap name_of k.2 ∙ names ∙ sym (ap name_of m.2)) in
+    sym k.2 ∙ ap (λ (s : Site). s.observed) same ∙ m.2
 
-put : (done os : List Observed) (o : Observed) → IsUniverse done os → (us : List Observed) × IsUniverse (done ++ o ∷ []) us
-put done os o u = by (place_named (name_of o) os) refl
-  where
-    grown : (us : List Observed) → ((name : List ℕ) → find_named name us ≡ find_named name (os ++ o ∷ [])) → (name : List ℕ) → find_named name us ≡ find_named name (done ++ o ∷ [])
-    grown us h name = h name ∙ found_in_parts os done (o ∷ []) name (u.finds name)
+pub module_here : (q : Asked) (s : Site) (o : Observed) → IsMember (scene_of q) s → s.observed ≡ o → s ≡ new_site q o
+module_here q s o m e =
+    let number : s.config.0 ≡ length q.known + 1 = eqb-true s.config.0 (length q.known + 1) (member_found (scene_of q) s m).by_finder in
+    λ i. record { config = record { 0 = number i }; observed = e i }
 
-    by : (p : Option ℕ) → place_named (name_of o) os ≡ p → (us : List Observed) × IsUniverse (done ++ o ∷ []) us
-    by (Some p) e = (os, record { rises = u.rises; finds = grown os (not_added os o p e) })
-    by None e =
-        let c = cut_at os o u.rises e in
-        let up : RisesBy module_cmp (c.low ++ c.high) = subst (RisesBy module_cmp) c.whole u.rises in (
-          c.low ++ o ∷ c.high,
-          record {
-            rises = rises_between module_cmp modules_total c.low c.high o up c.below c.above;
-            finds = grown (c.low ++ o ∷ c.high) (λ name. moved c.low c.high o name (differ_above o c.high c.above) ∙ ap (λ (l : List Observed). find_named name (l ++ o ∷ [])) (sym c.whole));
-          },
-        )
-
-put_all : (done rest os : List Observed) → IsUniverse done os → (us : List Observed) × IsUniverse (done ++ rest) us
-put_all done [] os u = (os, record { rises = u.rises; finds = λ name. u.finds name ∙ ap (find_named name) (sym (append-nil done)) })
-put_all done (o ∷ rest) os u =
-    let one = put done os o u in
-    let more = put_all (done ++ o ∷ []) rest one.0 one.1 in
-    (more.0, record { rises = more.1.rises; finds = λ name. more.1.finds name ∙ ap (find_named name) (append_assoc done (o ∷ []) rest) })
-
-universe_exists : (all : List Observed) → (os : List Observed) × IsUniverse all os
-universe_exists all = put_all [] all [] (record { rises = tt; finds = λ name. refl })
-
--- ---- the modules of the set
-
-members_exist : (os : List Observed) (roots : List (List ℕ)) → RisesBy module_cmp os → (ms : List Observed) × AreMembers os roots ms
-members_exist os roots up =
-    let next : List (List ℕ) = rows Followed os in
-    let starts : List ℕ = root_places os roots in
-    let marks = marks_exist next starts (rows_within Followed os) (starts_given Followed os next starts starts refl refl (roots_within os roots)) in
-    (kept os marks.0, members_right os roots next starts marks.0 (kept os marks.0) refl refl up marks.1.only marks.1.all refl)
+modules_made : (q : Asked) → Lists (scene_of q) → (os : List Observed) × AreModules q os
+modules_made q lists =
+    let os : Rising module_cmp modules_total (OfMember (scene_of q)) =
+    sorted module_cmp modules_total (OfMember (scene_of q)) (listing_map (IsMember (scene_of q)) (λ (s : Site). s.observed) lists.members) (modules_tied (scene_of q)) in (
+      os.items,
+      record {
+        rise = os.rise;
+        only = λ o c. let k = os.only o c in subst (IsMember (scene_of q)) (module_here q k.0 o k.1 k.2) k.1;
+        all = λ s m. os.all s.observed (s, m, refl);
+      },
+    )
 
 -- ---- what they read
 
-item_at : (ms : List Observed) (i : ℕ) → i < length ms → (a : Observed) × (slice_get ms i ≡ Some a) × (take (i + 1) ms ≡ take i ms ++ a ∷ [])
-item_at [] i lt = absurd (omega arith)
-item_at (m ∷ ms) i lt = let a : Observed = get_or (m ∷ ms) i m in (a, slice_get-get_or (m ∷ ms) i m lt, take_more (m ∷ ms) i m lt)
+abbrev ReadByOne : Scene → Site → Read → Type 0
+ReadByOne w a r = (b : Site) × Reads w a b × (read_of a b ≡ r)
 
-read_by_exists : (ms : List Observed) (i : ℕ) (a : Observed) → slice_get ms i ≡ Some a → (marks : List Bool) × AreReadBy ms a marks
-read_by_exists ms i a here =
-    let next : List (List ℕ) = rows PassedOn ms in
-    let starts : List ℕ = entry_places Every ms a.declaration.required ++ i ∷ [] in
-    let marks = marks_exist next starts (rows_within PassedOn ms) (starts_given PassedOn ms next starts starts refl refl (reader_within ms a i here)) in
-    (marks.0, read_by_right ms a i here next starts marks.0 refl refl marks.1.one_each marks.1.only marks.1.all)
+abbrev ReadByMember : Scene → Read → Type 0
+ReadByMember w r = (a : Site) × IsMember w a × ReadByOne w a r
 
-reads_up_to : (id : ConfigId) (ms : List Observed) → RisesBy module_cmp ms → (i : ℕ) → i ≤ length ms → (rs : List Read) × AreReads id ms (take i ms) rs
-reads_up_to id ms up zero le = ([], reads_none id ms [] refl)
-reads_up_to id ms up (suc i) le =
-    let before = reads_up_to id ms up i (omega arith) in
-    let at = item_at ms i (omega arith) in
-    let marks = read_by_exists ms i at.0 at.1 in
-    let new : List Read = before.0 ++ map (read_of id at.0) (kept ms marks.0) in
-    let more : AreReads id ms (take (i + 1) ms) new = reads_more id ms i at.0 marks.0 before.0 new up at.1 at.2 marks.1 before.1 refl in
-    let k : i + 1 ≡ suc i = omega arith in
-    (new, subst (λ (n : ℕ). AreReads id ms (take n ms) new) k more)
+configs_same : (w : Scene) → ((m : List ℕ × List ℕ) → IsSameName w m → ⊥) → (a b c : Site) → IsMember w a → Reads w a b → Reads w a c → site_name b ≡ site_name c → Decided (b.config ≡ c.config) → b.config ≡ c.config
+configs_same w none a b c m rb rc e (inl k) = k
+configs_same w none a b c m rb rc e (inr n) = absurd (none (site_name a, site_name b) (a, b, c, m, refl, rb, rc, refl, sym e, n))
 
-reads_exist : (id : ConfigId) (ms : List Observed) → RisesBy module_cmp ms → (rs : List Read) × AreReads id ms ms rs
-reads_exist id ms up =
-    let whole = reads_up_to id ms up (length ms) (omega arith) in
-    (whole.0, reads_all id ms (length ms) whole.0 (omega arith) whole.1)
-
--- ---- the whole
-
-abbrev answered : Result Graph ResolveFault → Result Graph ResolveFault
-answered r = r
-
-differs_ok : (g : Graph) → answered (Ok g) ≢ Err NoMemory
-differs_ok g e = absurd cc
-
-differs_missing : (name : List ℕ) (by : Option (List ℕ)) → answered (Err (NotFound name by)) ≢ Err NoMemory
-differs_missing name by e = absurd cc
-
-pub resolves_always : (known : ℕ) (before : List Observed) (parents : List ConfigId) (after : List Observed) (roots : List (List ℕ))
-    → (r : Result Graph ResolveFault) × Resolves known before parents after roots r × (r ≢ Err NoMemory)
-resolves_always known before parents after roots =
-    let u = universe_exists (before ++ after) in
-    let m = members_exist u.0 roots u.1.rises in
-    by u.0 u.1 m.0 m.1 (least_from None (all_missing u.0 roots m.0)) refl
+reads_tied : (w : Scene) → ((m : List ℕ × List ℕ) → IsSameName w m → ⊥) → (r s : Read) → ReadByMember w r → ReadByMember w s → read_cmp r s ≡ Equal → r ≡ s
+reads_tied w none r s (a, am, (b, rb, rs)) (c, cm, (d, rd, ss)) e = reads_exact r s e together
   where
-    by : (os : List Observed) (universe : IsUniverse (before ++ after) os) (ms : List Observed) (members : AreMembers os roots ms) (least : Option (List ℕ × Option (List ℕ))) → least_from None (all_missing os roots ms) ≡ least
-        → (r : Result Graph ResolveFault) × Resolves known before parents after roots r × (r ≢ Err NoMemory)
-    by os universe ms members None e =
-        let id : ConfigId = record { 0 = known + 1 } in
-        let reads = reads_exist id ms members.rises in
-        let g : Graph = record { id = id; parents = parents; modules = ms; reads = reads.0 } in
-        (Ok g, resolved before after os roots ms universe members known parents g reads.0 refl refl refl refl (sym e) reads.1, differs_ok g)
-    by os universe ms members (Some m) e =
-        (Err (NotFound m.0 m.1), least_right before after os roots ms universe members m (sym e), differs_missing m.0 m.1)
+    named : (x y : Site) (t : Read) → read_of x y ≡ t → site_name x ≡ t.reader
+    named x y t f = ap (λ (u : Read). u.reader) f
+
+    names : (x y : Site) (t : Read) → read_of x y ≡ t → site_name y ≡ t.name
+    names x y t f = ap (λ (u : Read). u.name) f
+
+    together : r.reader ≡ s.reader → r.name ≡ s.name → r ≡ s
+    together f g =
+        let one : a ≡ c = one_of_name w a c am cm (named a b r rs ∙ f ∙ sym (named c d s ss)) in
+        let to : site_name b ≡ site_name d = names a b r rs ∙ g ∙ sym (names c d s ss) in
+        let rd : Reads w a d = subst (λ x. Reads w x d) (sym one) rd in
+        let config : b.config ≡ d.config = configs_same w none a b d am rb rd to (decided_config b.config d.config) in
+        sym rs ∙ (λ i. record { reader = site_name (one i); config = config i; name = to i }) ∙ ss
+
+reads_made : (w : Scene) → Lists w → ((m : List ℕ × List ℕ) → IsSameName w m → ⊥) → (rs : List Read) × AreReads w rs
+reads_made w lists none =
+    let rs : Rising read_cmp reads_total (ReadByMember w) =
+    sorted read_cmp reads_total (ReadByMember w)
+    (listing_each (ReadByOne w) (IsMember w) lists.members (λ a m. listing_map (Reads w a) (read_of a) (lists.reads a m)))
+    (reads_tied w none) in (
+      rs.items,
+      record {
+        rise = rs.rise;
+        only = λ r c. let k = rs.only r c in (k.0, k.2.0, k.1, k.2.1, sym k.2.2);
+        all = λ a b m r. rs.all (read_of a b) (a, m, (b, r, refl));
+      },
+    )
+
+-- ---- the answer
+
+graph_made : (q : Asked) → Lists (scene_of q) → ((f : ResolveFault) → Applies q f → ⊥) → (g : Graph) × IsGraphOf q g
+graph_made q lists none =
+    let modules = modules_made q lists in
+    let reads = reads_made (scene_of q) lists (λ m k. none (SameName m.0 m.1) k) in (
+      record { id = id_of q; parents = q.parents; modules = modules.0; reads = reads.0 },
+      record { number = refl; given = refl; modules = modules.1; reads = reads.1 },
+    )
+
+abbrev Answer : Asked → Type 0
+Answer q = (r : Result Graph ResolveFault) × Resolves q r × (r ≢ Err NoMemory)
+
+answer_by : (q : Asked) → Lists (scene_of q) → ((f : ResolveFault) × IsLeast fault_cmp (Applies q) f) ⊎ ((f : ResolveFault) → Applies q f → ⊥) → Answer q
+answer_by q lists (inl (f, least)) = (Err f, told_by_least q f least, λ e. let same : f ≡ NoMemory = cc in subst (Applies q) same least.has)
+answer_by q lists (inr none) = let g = graph_made q lists none in (Ok g.0, (none, g.1), λ e. absurd cc)
+
+pub resolves_always : ResolvesAlways
+resolves_always q =
+    let lists = all_listed (scene_of q) in
+    answer_by q lists (least_or_none fault_cmp fault_total (Applies q) (faults_listed q lists))
+
+-- ---- refusals
+
+refused_by : (q : Asked) (f : ResolveFault) → Applies q f → Answer q → (g : ResolveFault) × (g ≢ NoMemory) × Resolves q (Err g)
+refused_by q f k (Ok g, r, n) = absurd (r.0 f k)
+refused_by q f k (Err g, r, n) = (g, (λ e. n (ap Err e)), r)
+
+pub refuses_where_one_holds : RefusesWhereOneHolds
+refuses_where_one_holds q = (
+  λ k. (k.0, (least_told q k.0 k.1 k.2).has),
+  λ k. refused_by q k.0 k.1 (resolves_always q),
+)

@@ -1,45 +1,66 @@
 -- A resolution has one answer.
-use Rattle.std.proofs.Common.{◌≡◌, ◌≢◌, ℕ, List, refl, sym, ◌∙◌, ap, subst, Contains, Result, Ok, Err}
-use Rattle.jl_prim.specs.declared.numbers.ConfigId.{ConfigId}
+use Rattle.std.proofs.Common.{◌≡◌, ◌≢◌, List, refl, sym, ◌∙◌, ap, subst, Contains, Result, Ok, Err}
 use Rattle.jl_prim.specs.declared.declaration.Observed.{Observed}
+use Rattle.jl_logic.specs.Order.{IsLeast}
 use Rattle.jl_logic.proofs.Rising.{same_rising, same_least}
 use Rattle.jl_config.specs.declared.configuration.Read.{Read}
 use Rattle.jl_config.specs.declared.fault.ResolveFault.{ResolveFault}
-use Rattle.jl_config.specs.declared.fault.ResolveFault.TheVariants.{NotFound, NoMemory}
+use Rattle.jl_config.specs.declared.fault.ResolveFault.TheVariants.{NoParents, NotFound, TooMany, Cycle, SameName, SamePackage, OwnPackage, ServicePackage, NoMemory}
 use Rattle.jl_config.specs.Graphs.{Graph}
-use Rattle.jl_config.specs.Members.{IsMissing}
-use Rattle.jl_config.specs.Resolves.{Resolves, IsResolved, IsGraphOf, module_cmp, read_cmp, read_of, missing_cmp}
-use Rattle.jl_config.proofs.Finds.{modules_apart}
-use Rattle.jl_config.proofs.Orders.{missing_total, missing_exact, reads_apart}
+use Rattle.jl_config.specs.Located.{Asked, Scene, scene_of}
+use Rattle.jl_config.specs.Orders.{module_cmp, read_cmp}
+use Rattle.jl_config.specs.Refusals.{Applies, fault_cmp}
+use Rattle.jl_config.specs.Resolves.{Resolves, AreModules, AreReads, IsGraphOf, new_site}
+use Rattle.jl_config.proofs.FaultOrder.{fault_total, fault_exact, modules_apart, reads_apart}
 
-module _ (before after : List Observed) (roots : List (List ℕ)) where
-  same_modules : (g h : Graph) → IsGraphOf before after roots g → IsGraphOf before after roots h → g.modules ≡ h.modules
-  same_modules g h p q = same_rising module_cmp modules_apart g.modules h.modules p.modules_rise q.modules_rise (λ o c. q.modules_all o (p.modules_only o c)) (λ o c. p.modules_all o (q.modules_only o c))
+-- ---- what a refusal tells
 
-  reads_into : (g h : Graph) → g.id ≡ h.id → IsGraphOf before after roots g → IsGraphOf before after roots h → (r : Read) → Contains g.reads r → Contains h.reads r
-  reads_into g h e p q r c =
-      let w = p.reads_only r c in
-      let same : read_of h.id w.0 w.1 ≡ r = ap (λ i. read_of i w.0 w.1) (sym e) ∙ sym w.4 in
-      subst (Contains h.reads) same (q.reads_all w.0 w.1 w.2 w.3)
+pub least_told : (q : Asked) (f : ResolveFault) → f ≢ NoMemory → Resolves q (Err f) → IsLeast fault_cmp (Applies q) f
+least_told q NoParents n r = r
+least_told q (NotFound name by) n r = r
+least_told q TooMany n r = r
+least_told q (Cycle least) n r = r
+least_told q (SameName reader name) n r = r
+least_told q (SamePackage reader p one other) n r = r
+least_told q (OwnPackage reader p other) n r = r
+least_told q (ServicePackage name service) n r = r
+least_told q NoMemory n r = absurd (n refl)
 
-  same_reads : (g h : Graph) → g.id ≡ h.id → IsGraphOf before after roots g → IsGraphOf before after roots h → g.reads ≡ h.reads
-  same_reads g h e p q = same_rising read_cmp reads_apart g.reads h.reads p.reads_rise q.reads_rise (reads_into g h e p q) (reads_into h g (sym e) q p)
+pub told_by_least : (q : Asked) (f : ResolveFault) → IsLeast fault_cmp (Applies q) f → Resolves q (Err f)
+told_by_least q NoParents l = l
+told_by_least q (NotFound name by) l = l
+told_by_least q TooMany l = l
+told_by_least q (Cycle least) l = l
+told_by_least q (SameName reader name) l = l
+told_by_least q (SamePackage reader p one other) l = l
+told_by_least q (OwnPackage reader p other) l = l
+told_by_least q (ServicePackage name service) l = l
+told_by_least q NoMemory l = tt
 
-  same_graph : (known : ℕ) (parents : List ConfigId) (g h : Graph) → IsResolved known before parents after roots g → IsResolved known before parents after roots h → g ≡ h
-  same_graph known parents g h p q =
-      let ids : g.id ≡ h.id = p.next ∙ sym q.next in
-      let given : g.parents ≡ h.parents = p.given ∙ sym q.given in
-      let modules = same_modules g h p.graph q.graph in
-      let reads = same_reads g h ids p.graph q.graph in
-      λ i. record { id = ids i; parents = given i; modules = modules i; reads = reads i }
+-- ---- two answers
 
-pub resolves_once : (known : ℕ) (before : List Observed) (parents : List ConfigId) (after : List Observed) (roots : List (List ℕ)) (r s : Result Graph ResolveFault)
-    → Resolves known before parents after roots r → Resolves known before parents after roots s → r ≢ Err NoMemory → s ≢ Err NoMemory → r ≡ s
-resolves_once known before parents after roots (Ok g) (Ok h) p q n m = ap Ok (same_graph before after roots known parents g h p q)
-resolves_once known before parents after roots (Ok g) (Err (NotFound name by)) p q n m = absurd (p.complete (name, by) q.has)
-resolves_once known before parents after roots (Err (NotFound name by)) (Ok h) p q n m = absurd (q.complete (name, by) p.has)
-resolves_once known before parents after roots (Err (NotFound name by)) (Err (NotFound other to)) p q n m =
-    let e : (name, by) ≡ (other, to) = same_least missing_cmp missing_total missing_exact (IsMissing before after roots) (name, by) (other, to) p q in
-    λ i. Err (NotFound (e i).0 (e i).1)
-resolves_once known before parents after roots (Err NoMemory) s p q n m = absurd (n refl)
-resolves_once known before parents after roots r (Err NoMemory) p q n m = absurd (m refl)
+same_modules : (q : Asked) (os ps : List Observed) → AreModules q os → AreModules q ps → os ≡ ps
+same_modules q os ps a b = same_rising module_cmp modules_apart os ps a.rise b.rise (λ o c. b.all (new_site q o) (a.only o c)) (λ o c. a.all (new_site q o) (b.only o c))
+
+reads_into : (w : Scene) (rs ss : List Read) → AreReads w rs → AreReads w ss → (r : Read) → Contains rs r → Contains ss r
+reads_into w rs ss a b r c =
+    let k = a.only r c in
+    subst (Contains ss) (sym k.4) (b.all k.0 k.1 k.2 k.3)
+
+same_reads : (w : Scene) (rs ss : List Read) → AreReads w rs → AreReads w ss → rs ≡ ss
+same_reads w rs ss a b = same_rising read_cmp reads_apart rs ss a.rise b.rise (reads_into w rs ss a b) (reads_into w ss rs b a)
+
+same_graph : (q : Asked) (g h : Graph) → IsGraphOf q g → IsGraphOf q h → g ≡ h
+same_graph q g h a b =
+    let ids : g.id ≡ h.id = a.number ∙ sym b.number in
+    let parents : g.parents ≡ h.parents = a.given ∙ sym b.given in
+    let modules = same_modules q g.modules h.modules a.modules b.modules in
+    let reads = same_reads (scene_of q) g.reads h.reads a.reads b.reads in
+    λ i. record { id = ids i; parents = parents i; modules = modules i; reads = reads i }
+
+pub resolves_once : (q : Asked) (r s : Result Graph ResolveFault) → Resolves q r → Resolves q s → r ≢ Err NoMemory → s ≢ Err NoMemory → r ≡ s
+resolves_once q (Ok g) (Ok h) a b n m = ap Ok (same_graph q g h a.1 b.1)
+resolves_once q (Ok g) (Err f) a b n m = absurd (a.0 f (least_told q f (λ e. m (ap Err e)) b).has)
+resolves_once q (Err f) (Ok h) a b n m = absurd (b.0 f (least_told q f (λ e. n (ap Err e)) a).has)
+resolves_once q (Err f) (Err g) a b n m =
+    ap Err (same_least fault_cmp fault_total fault_exact (Applies q) f g (least_told q f (λ e. n (ap Err e)) a) (least_told q g (λ e. m (ap Err e)) b))

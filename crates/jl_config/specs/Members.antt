@@ -1,23 +1,12 @@
--- Which modules a resolution has, and which of them reads which (JLS 7.7.1, `Configuration`). before and after are what the two finders observe.
-use Rattle.std.specs.Prelude.{◌≡◌, ℕ, zero, suc, List, [], ◌∷◌, Option, None, Some, Bool, not, ◌&&◌, ◌||◌, nat_eq, codes, IsTrue, Contains, ◌⊎◌, if◌then◌else◌}
+-- Which modules a resolution has, and which of them reads which (JLS 7.7.1, `Configuration`).
+use Rattle.std.specs.Prelude.{◌≡◌, ℕ, zero, suc, List, [], ◌∷◌, Bool, true, false, Option, Some, not, ◌&&◌, ◌||◌, codes, IsTrue, Contains, ◌⊎◌, ⊤}
 use Rattle.jl_prim.specs.declared.declaration.Requires.{Requires}
-use Rattle.jl_prim.specs.declared.declaration.Observed.{Observed}
+use Rattle.jl_prim.specs.declared.declaration.Provides.{Provides}
 use Rattle.jl_logic.specs.Order.{is_text}
+use Rattle.jl_config.specs.declared.site.Site.{Site}
+use Rattle.jl_config.specs.Located.{Scene, site_name, located, is_here, own_meaning}
 
-abbrev pub name_of : Observed → List ℕ
-name_of o = o.declaration.name
-
--- the first module of a name in a list
-abbrev pub find_named : List ℕ → List Observed → Option Observed
-find_named name [] = None
-find_named name (o ∷ os) = if is_text (name_of o) name then Some o else find_named name os
-
--- A name is located in the before finder, else in the after finder.
-abbrev pub located : List Observed → List Observed → List ℕ → Option Observed
-located before after name = or_else (find_named name before) (find_named name after) where
-  or_else : Option Observed → Option Observed → Option Observed
-  or_else (Some o) other = Some o
-  or_else None other = other
+-- ---- entries
 
 abbrev pub is_base : List ℕ → Bool
 is_base name = is_text name (codes "java.base")
@@ -31,39 +20,87 @@ abbrev pub is_passed_on : Requires → Bool
 is_passed_on r = r.transitive && not (is_base r.name)
 
 -- the module requires this name, not statically
-abbrev pub Needs : Observed → List ℕ → Type 0
-Needs o name = (r : Requires) × Contains o.declaration.required r × IsTrue (is_followed r) × (r.name ≡ name)
+abbrev pub Needs : Site → List ℕ → Type 0
+Needs s name = (r : Requires) × Contains s.observed.declaration.required r × IsTrue (is_followed r) × (r.name ≡ name)
 
--- o ends a chain of n steps which begins with a root, in which every name is located and each later one is needed by the one before
-abbrev pub Enumerated : List Observed → List Observed → List (List ℕ) → ℕ → Observed → Type 0
-Enumerated before after roots zero o = (name : List ℕ) × Contains roots name × (located before after name ≡ Some o)
-Enumerated before after roots (suc n) o = (p : Observed) × (name : List ℕ) × Enumerated before after roots n p × Needs p name × (located before after name ≡ Some o)
+abbrev pub Uses : Site → List ℕ → Type 0
+Uses s service = Contains s.observed.declaration.uses service
 
--- a module of the set
-abbrev pub IsMember : List Observed → List Observed → List (List ℕ) → Observed → Type 0
-IsMember before after roots o = (n : ℕ) × Enumerated before after roots n o
+abbrev pub IsProvidedBy : Site → List ℕ → Type 0
+IsProvidedBy s service = (p : Provides) × Contains s.observed.declaration.provides p × (p.service ≡ service)
 
--- a name that is not located: a root, or what a module of the set, by, needs
-abbrev pub IsMissing : List Observed → List Observed → List (List ℕ) → List ℕ × Option (List ℕ) → Type 0
-IsMissing before after roots (name, None) = Contains roots name × (located before after name ≡ None)
-IsMissing before after roots (name, Some by) = (o : Observed) × IsMember before after roots o × (name_of o ≡ by) × Needs o name × (located before after name ≡ None)
+-- ---- the enumerated set
 
--- a requires entry means the member so located
-abbrev pub Means : List Observed → List Observed → List (List ℕ) → Requires → Observed → Type 0
-Means before after roots r o = (located before after r.name ≡ Some o) × IsMember before after roots o
+-- a finder observes the module, and its name is located there
+pub record IsFound (w : Scene) (s : Site) : Type 0 where
+  pub by_finder : IsTrue (is_here w s)
+  pub meant : located w (site_name s) ≡ Some s
+
+-- s ends a chain of n steps which begins with a root, in which every module is found and each later one is needed by the one before
+abbrev pub Enumerated : Scene → ℕ → Site → Type 0
+Enumerated w zero s = IsFound w s × Contains w.roots (site_name s)
+Enumerated w (suc n) s = IsFound w s × ((p : Site) × Enumerated w n p × Needs p (site_name s))
+
+-- ---- the bound set
+
+-- a module of an ancestor
+abbrev pub IsAbove : Scene → Site → Type 0
+IsAbove w s = Contains w.sites s × (is_here w s ≡ false)
+
+-- one of the earlier modules, or a module of an ancestor, uses the service
+abbrev pub IsUsed : Scene → List Site → List ℕ → Type 0
+IsUsed w earlier service = (s : Site) × (Contains earlier s ⊎ IsAbove w s) × Uses s service
+
+-- why a module may stand behind earlier ones: it is a root, one of them needs it, or it provides a service that is used
+abbrev pub IsCaused : Scene → List Site → Site → Type 0
+IsCaused w earlier s = Contains w.roots (site_name s)
+    ⊎ ((p : Site) × Contains earlier p × Needs p (site_name s))
+    ⊎ ((service : List ℕ) × IsProvidedBy s service × IsUsed w earlier service)
+
+-- A list, its last module first, in which each is found and is caused by those before it.
+abbrev pub IsJustified : Scene → List Site → Type 0
+IsJustified w [] = ⊤
+IsJustified w (s ∷ earlier) = IsFound w s × IsCaused w earlier s × IsJustified w earlier
+
+-- s ends a justified list
+abbrev pub IsBound : Scene → Site → Type 0
+IsBound w s = (earlier : List Site) × IsJustified w (s ∷ earlier)
+
+-- a module of the set: of the bound one, or without binding of the enumerated one
+abbrev pub IsMemberBy : Bool → Scene → Site → Type 0
+IsMemberBy true w s = IsBound w s
+IsMemberBy false w s = (n : ℕ) × Enumerated w n s
+
+abbrev pub IsMember : Scene → Site → Type 0
+IsMember w s = IsMemberBy w.binds w s
+
+-- ---- reads
+
+-- to a member a name means the member that is located by it, or the module of an ancestor
+pub record MeansHere (w : Scene) (name : List ℕ) (s : Site) : Type 0 where
+  pub meant : located w name ≡ Some s
+  pub member : IsTrue (is_here w s) → IsMember w s
+
+abbrev pub MeansBy : Bool → Scene → Site → List ℕ → Site → Type 0
+MeansBy true w a name b = MeansHere w name b
+MeansBy false w a name b = own_meaning w a name ≡ Some b
+
+-- what a name means to a module: to an ancestor's, what its own configuration has it read
+abbrev pub Means : Scene → Site → List ℕ → Site → Type 0
+Means w a name b = MeansBy (is_here w a) w a name b
 
 -- b is required by a
-abbrev pub IsRequired : List Observed → List Observed → List (List ℕ) → Observed → Observed → Type 0
-IsRequired before after roots a b = (r : Requires) × Contains a.declaration.required r × Means before after roots r b
+abbrev pub IsRequired : Scene → Site → Site → Type 0
+IsRequired w a b = (r : Requires) × Contains a.observed.declaration.required r × Means w a r.name b
 
 -- b is required transitively by a
-abbrev pub IsPassedOn : List Observed → List Observed → List (List ℕ) → Observed → Observed → Type 0
-IsPassedOn before after roots a b = (r : Requires) × Contains a.declaration.required r × IsTrue (is_passed_on r) × Means before after roots r b
+abbrev pub IsPassedOn : Scene → Site → Site → Type 0
+IsPassedOn w a b = (r : Requires) × Contains a.observed.declaration.required r × IsTrue (is_passed_on r) × Means w a r.name b
 
 -- b ends a list in which a requires the first, and each of the n later ones is required transitively by the one before
-abbrev pub ReadsBy : List Observed → List Observed → List (List ℕ) → ℕ → Observed → Observed → Type 0
-ReadsBy before after roots zero a b = IsRequired before after roots a b
-ReadsBy before after roots (suc n) a b = (c : Observed) × ReadsBy before after roots n a c × IsPassedOn before after roots c b
+abbrev pub ReadsBy : Scene → ℕ → Site → Site → Type 0
+ReadsBy w zero a b = IsRequired w a b
+ReadsBy w (suc n) a b = (c : Site) × ReadsBy w n a c × IsPassedOn w c b
 
-abbrev pub Reads : List Observed → List Observed → List (List ℕ) → Observed → Observed → Type 0
-Reads before after roots a b = (a ≡ b) ⊎ ((n : ℕ) × ReadsBy before after roots n a b)
+abbrev pub Reads : Scene → Site → Site → Type 0
+Reads w a b = (a ≡ b) ⊎ ((n : ℕ) × ReadsBy w n a b)

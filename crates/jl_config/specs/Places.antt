@@ -1,81 +1,93 @@
--- Modules by their places in one list: the words in which the parts of a resolution speak.
-use Rattle.std.specs.Prelude.{◌≡◌, ℕ, zero, suc, ◌+◌, ◌≤◌, List, [], ◌∷◌, Option, None, Some, Result, Ok, Err, Bool, true, map, length, IsTrue, Contains, ◌⊎◌, if◌then◌else◌, slice_get, nat_eq}
+-- Modules by their places in sight: the words in which the parts of a resolution speak. No public clause cites these.
+use Rattle.std.specs.Prelude.{◌≡◌, ℕ, ◌+◌, ◌<◌, List, [], ◌∷◌, length, Option, None, Some, Bool, true, ◌&&◌, Contains, All, slice_get, if◌then◌else◌}
 use Rattle.std.specs.List.{filter_map}
-use Rattle.std.specs.List.Sorted.{IsPartitionPoint}
 use Rattle.std.specs.Option.{option_map}
-use Rattle.std.specs.declared.cmp.Ordering.TheVariants.{Less, Greater}
+use Rattle.std.specs.declared.cmp.Ordering.{Ordering}
 use Rattle.jl_prim.specs.declared.numbers.ConfigId.{ConfigId}
-use Rattle.jl_prim.specs.declared.declaration.Requires.{Requires}
-use Rattle.jl_prim.specs.declared.declaration.Observed.{Observed}
-use Rattle.jl_logic.specs.Order.{is_text, name_cmp, RisesBy}
+use Rattle.jl_logic.specs.Order.{is_text, RisesBy, IsLeast}
 use Rattle.jl_config.specs.declared.configuration.Read.{Read}
-use Rattle.jl_config.specs.declared.places.Entries.{Entries}
-use Rattle.jl_config.specs.declared.places.Entries.TheVariants.{Every, Followed, PassedOn}
-use Rattle.jl_config.specs.Members.{name_of, find_named, is_followed, is_passed_on, IsMember}
-use Rattle.jl_config.specs.Resolves.{module_cmp, read_cmp, read_of}
+use Rattle.jl_config.specs.declared.site.Site.{Site}
+use Rattle.jl_config.specs.declared.fault.ResolveFault.{ResolveFault}
+use Rattle.jl_config.specs.declared.fault.ResolveFault.TheVariants.{NotFound, Cycle, SameName, SamePackage, OwnPackage, ServicePackage}
+use Rattle.jl_config.specs.Located.{Scene, site_name, is_numbered, find_read}
+use Rattle.jl_config.specs.Members.{IsMember, Reads}
+use Rattle.jl_config.specs.Orders.{site_cmp}
+use Rattle.jl_config.specs.Refusals.{IsMissing, IsOnCircle, IsSameName, IsSamePackage, IsOwnPackage, IsServicePackage}
 
--- the place of the first module of a name
-abbrev pub place_named : List ℕ → List Observed → Option ℕ
+-- the place of the first of a name
+abbrev pub place_named : List ℕ → List Site → Option ℕ
 place_named name [] = None
-place_named name (o ∷ os) = if is_text (name_of o) name then Some 0 else option_map (λ p. p + 1) (place_named name os)
+place_named name (s ∷ ss) = if is_text (site_name s) name then Some 0 else option_map (λ p. p + 1) (place_named name ss)
 
--- what a search for a name answers: its place, or where it would stand
-abbrev pub IsSearched : List ℕ → List Observed → Result ℕ ℕ → Type 0
-IsSearched name os (Ok p) = place_named name os ≡ Some p
-IsSearched name os (Err p) = (place_named name os ≡ None) × (p ≤ length os) × IsPartitionPoint (λ o. name_cmp (name_of o) name ≡ Less) (λ o. name_cmp (name_of o) name ≡ Greater) os p
+-- the place of the first of a configuration and a name
+abbrev pub place_of_site : ConfigId → List ℕ → List Site → Option ℕ
+place_of_site config name [] = None
+place_of_site config name (s ∷ ss) =
+    if is_numbered s.config config && is_text (site_name s) name then Some 0 else option_map (λ p. p + 1) (place_of_site config name ss)
 
--- os holds, in name order, the first module of each name of all
-pub record IsUniverse (all os : List Observed) : Type 0 where
-  pub rises : RisesBy module_cmp os
-  pub finds : (name : List ℕ) → find_named name os ≡ find_named name all
+abbrev pub read_place : List Site → Option Read → Option ℕ
+read_place ss None = None
+read_place ss (Some r) = place_of_site r.config r.name ss
 
--- which requires entries are meant
-abbrev pub takes : Entries → Requires → Bool
-takes Every r = true
-takes Followed r = is_followed r
-takes PassedOn r = is_passed_on r
+-- the place of what a name means to an ancestor's module
+abbrev pub own_place : Scene → Site → List ℕ → Option ℕ
+own_place w s name = read_place w.sites (find_read s.config (site_name s) name w.reads)
 
-abbrev pub entry_place : Entries → List Observed → Requires → Option ℕ
-entry_place kind os r = if takes kind r then place_named r.name os else None
+abbrev pub sites_at : Scene → List ℕ → List Site
+sites_at w ps = filter_map (slice_get w.sites) ps
 
--- the places of the modules that entries name
-abbrev pub entry_places : Entries → List Observed → List Requires → List ℕ
-entry_places kind os rs = filter_map (entry_place kind os) rs
+-- ---- members
 
-abbrev pub rows : Entries → List Observed → List (List ℕ)
-rows kind os = map (λ o. entry_places kind os o.declaration.required) os
+-- one mark for each place, set where a module of the set is located by its name
+pub record AreMarks (w : Scene) (marks : List Bool) : Type 0 where
+  pub one_each : length marks ≡ length w.sites
+  pub only : (p : ℕ) (s : Site) → slice_get w.sites p ≡ Some s → slice_get marks p ≡ Some true
+      → IsMember w s × (place_named (site_name s) w.sites ≡ Some p)
+  pub all : (p : ℕ) (s : Site) → slice_get w.sites p ≡ Some s → IsMember w s → place_named (site_name s) w.sites ≡ Some p
+      → slice_get marks p ≡ Some true
 
-abbrev pub root_places : List Observed → List (List ℕ) → List ℕ
-root_places os roots = filter_map (λ name. place_named name os) roots
+-- the places of the modules of the set, in name order
+pub record AreMembers (w : Scene) (ps : List ℕ) : Type 0 where
+  pub within : All (λ p. p < length w.sites) ps
+  pub rise : RisesBy site_cmp (sites_at w ps)
+  pub only : (p : ℕ) (s : Site) → Contains ps p → slice_get w.sites p ≡ Some s → IsMember w s × (place_named (site_name s) w.sites ≡ Some p)
+  pub all : (s : Site) → IsMember w s → (p : ℕ) × Contains ps p × (slice_get w.sites p ≡ Some s)
 
--- the modules whose marks are set
-abbrev pub kept : List Observed → List Bool → List Observed
-kept [] marks = []
-kept (o ∷ os) [] = []
-kept (o ∷ os) (mark ∷ marks) = if mark then o ∷ kept os marks else kept os marks
+-- ---- reads
 
--- ms are, in name order, the modules that the roots bring in where os is all that is observed
-pub record AreMembers (os : List Observed) (roots : List (List ℕ)) (ms : List Observed) : Type 0 where
-  pub rises : RisesBy module_cmp ms
-  pub only : (o : Observed) → Contains ms o → IsMember os [] roots o
-  pub all : (o : Observed) → IsMember os [] roots o → Contains ms o
+-- places of what a module reads
+pub record AreReadBy (w : Scene) (a : Site) (ps : List ℕ) : Type 0 where
+  pub within : All (λ p. p < length w.sites) ps
+  pub only : (p : ℕ) (s : Site) → Contains ps p → slice_get w.sites p ≡ Some s → Reads w a s × (place_of_site s.config (site_name s) w.sites ≡ Some p)
+  pub all : (b : Site) → Reads w a b → (p : ℕ) × Contains ps p × (slice_get w.sites p ≡ Some b)
 
--- among ms, b ends a list in which a requires the first, and each of the n later ones is required transitively by the one before
-abbrev pub ReadsAmong : List Observed → ℕ → Observed → Observed → Type 0
-ReadsAmong ms zero a b = (r : Requires) × Contains a.declaration.required r × (find_named r.name ms ≡ Some b)
-ReadsAmong ms (suc n) a b = (c : Observed) × (r : Requires) × ReadsAmong ms n a c × Contains c.declaration.required r × IsTrue (is_passed_on r) × (find_named r.name ms ≡ Some b)
+-- ---- refusals of one kind
 
-abbrev pub ReadIn : List Observed → Observed → Observed → Type 0
-ReadIn ms a b = (a ≡ b) ⊎ ((n : ℕ) × ReadsAmong ms n a b)
+abbrev pub MissingFault : Scene → ResolveFault → Type 0
+MissingFault w (NotFound name by) = IsMissing w (name, by)
+MissingFault w _ = ⊥
 
--- the places at which marks say what a module reads
-pub record AreReadBy (ms : List Observed) (a : Observed) (marks : List Bool) : Type 0 where
-  pub one_each : length marks ≡ length ms
-  pub only : (p : ℕ) (b : Observed) → slice_get ms p ≡ Some b → slice_get marks p ≡ Some true → ReadIn ms a b
-  pub all : (b : Observed) → ReadIn ms a b → (p : ℕ) × (slice_get ms p ≡ Some b) × (slice_get marks p ≡ Some true)
+abbrev pub CycleFault : Scene → ResolveFault → Type 0
+CycleFault w (Cycle least) = IsOnCircle w least
+CycleFault w _ = ⊥
 
--- rs are, in order, what the readers read among ms
-pub record AreReads (id : ConfigId) (ms readers : List Observed) (rs : List Read) : Type 0 where
-  pub rises : RisesBy read_cmp rs
-  pub only : (r : Read) → Contains rs r → (a : Observed) × (b : Observed) × Contains readers a × Contains ms b × ReadIn ms a b × (r ≡ read_of id a b)
-  pub all : (a b : Observed) → Contains readers a → Contains ms b → ReadIn ms a b → Contains rs (read_of id a b)
+abbrev pub SameNameFault : Scene → ResolveFault → Type 0
+SameNameFault w (SameName reader name) = IsSameName w (reader, name)
+SameNameFault w _ = ⊥
+
+abbrev pub SamePackageFault : Scene → ResolveFault → Type 0
+SamePackageFault w (SamePackage reader p one other) = IsSamePackage w (reader, p, one, other)
+SamePackageFault w _ = ⊥
+
+abbrev pub OwnPackageFault : Scene → ResolveFault → Type 0
+OwnPackageFault w (OwnPackage reader p other) = IsOwnPackage w (reader, p, other)
+OwnPackageFault w _ = ⊥
+
+abbrev pub ServiceFault : Scene → ResolveFault → Type 0
+ServiceFault w (ServicePackage name service) = IsServicePackage w (name, service)
+ServiceFault w _ = ⊥
+
+-- what a search answers: the least that has the property, or that there is none
+abbrev pub IsLeastSome : {X : Type 0} → (X → X → Ordering) → (X → Type 0) → Option X → Type 0
+IsLeastSome {X} cmp P None = (x : X) → P x → ⊥
+IsLeastSome cmp P (Some x) = IsLeast cmp P x

@@ -6,12 +6,47 @@ ghost use Rattle.jl_config.specs.declared.fault.ResolveFault.TheVariants.{NoMemo
 use jl_prim::{CopyEnd, Name, PushEnd};
 use std::alloc::{AllocError, AllocFailed};
 
-/// Why a resolution is refused. Where it could be refused for several reasons of one kind, the one whose
-/// fields are first in order is given; no name comes before any name.
+/// Why a resolution is refused (`java.lang.module.ResolutionException`). The first condition that holds, in
+/// the order of the variants from `NoParents` on, is given, and where it holds for several fields those that
+/// are least in their order; no name comes before any name.
 #[derive(Debug, PartialEq, Drop)]
 pub enum ResolveFault {
-    /// A root, or a module that the module `by` requires, is not observed.
-    NotFound { name: Name, by: Option<Name> },
+    /// The list of parents is empty.
+    NoParents,
+    /// A root, or a module that the module `by` requires not statically, is not located.
+    NotFound {
+        name: Name,
+        by: Option<Name>,
+    },
+    /// The set has more modules than there may be, or so many configurations are known.
+    TooMany,
+    /// Modules require each other in a circle; `least` is on one.
+    Cycle {
+        least: Name,
+    },
+    /// A module reads two modules of one name.
+    SameName {
+        reader: Name,
+        name: Name,
+    },
+    /// Two modules that the reader reads export the package to it.
+    SamePackage {
+        reader: Name,
+        package: Name,
+        one: Name,
+        other: Name,
+    },
+    /// The reader has the package, and a module that it reads exports it to the reader.
+    OwnPackage {
+        reader: Name,
+        package: Name,
+        other: Name,
+    },
+    /// A module uses or provides a service whose package it neither has nor reads.
+    ServicePackage {
+        module: Name,
+        service: Name,
+    },
     /// There was no memory for the configuration.
     NoMemory,
 }

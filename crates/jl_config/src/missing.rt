@@ -1,70 +1,95 @@
-//! The least name that is not observed.
+//! The least name that is not located.
 
 ghost use Rattle.std.specs.Prelude.{◌≡◌, None, IfOk};
+ghost use Rattle.std.specs.List.{filter_map};
 ghost use Rattle.std.specs.Option.{option_map};
-ghost use Rattle.jl_logic.specs.Order.{RisesBy};
-ghost use Rattle.jl_config.specs.Missing.{fields, lesser, least_from, root_missing, entry_missing, missing_roots, missing_entries, all_missing};
-ghost use Rattle.jl_config.specs.Resolves.{module_cmp};
+ghost use Rattle.jl_config.specs.MissingNames.{lack_of, lesser, least_from, root_missing, entry_missing, missing_entries, missing_at, all_missing};
+ghost use Rattle.jl_config.specs.Places.{AreMembers, MissingFault, IsLeastSome};
+ghost use Rattle.jl_config.specs.Refusals.{fault_cmp};
 
-use crate::places::{follows, place_of};
-use jl_prim::{Copied, CopyEnd, Name, Observed, Requires};
+use crate::fault::ResolveFault;
+use crate::member_rows::follows;
+use crate::members::Members;
+use crate::sights::Sights;
+use jl_prim::{Copied, CopyEnd, Name, Requires};
 
-/// A name that is not observed, and the module that requires it, where it is no root.
+/// A name that is not located, and the module that requires it, where it is no root.
 #[derive(Debug, PartialEq, Eq, PartialOrd, Ord, Drop)]
 pub struct Missing {
     pub name: Name,
     pub by: Option<Name>,
 }
 
-/// The least of the roots, and of what the members require, that is not observed.
-pub fn least_missing(
-    modules: &[Observed],
-    roots: &[Name],
-    members: &[Observed],
-) -> Result<Option<Missing>, CopyEnd>
-    requires { RisesBy module_cmp modules.now }
-    ensures { IfOk result (λ least. option_map fields least ≡ least_from None (all_missing modules.now roots.now members.now)) }
+/// The refusal with the least of the roots, and of what the members require, that is not located.
+pub fn least_not_found(sights: &Sights, members: &Members) -> Result<Option<ResolveFault>, CopyEnd>
+    requires { AreMembers sights.now members.now.places.items }
+    ensures { IfOk result (λ found. IsLeastSome fault_cmp (MissingFault sights.now) found) }
 {
-    let mut least = least_of_roots(modules, roots)?;
-    for o in members {
-        let entries = o.declaration.required.as_slice();
-        least = least_of_entries(modules, &o.declaration.name, entries, least)?;
+    match least_missing(sights, members.places.as_slice())? {
+        None => Ok(None),
+        Some(missing) => {
+            let Missing { name, by } = missing;
+            Ok(Some(ResolveFault::NotFound { name, by }))
+        }
+    }
+}
+
+fn least_missing(sights: &Sights, places: &[usize]) -> Result<Option<Missing>, CopyEnd>
+    ensures { IfOk result (λ least. option_map lack_of least ≡ least_from None (all_missing sights.now places.now)) }
+{
+    let mut least = least_of_roots(sights, sights.roots())?;
+    for place in places {
+        least = least_at(sights, *place, least)?;
     }
     Ok(least)
 }
 
-fn least_of_roots(modules: &[Observed], roots: &[Name]) -> Result<Option<Missing>, CopyEnd>
-    requires { RisesBy module_cmp modules.now }
-    ensures { IfOk result (λ least. option_map fields least ≡ least_from None (missing_roots modules.now roots.now)) }
+fn least_of_roots(sights: &Sights, roots: &[Name]) -> Result<Option<Missing>, CopyEnd>
+    ensures { IfOk result (λ least. option_map lack_of least ≡ least_from None (filter_map (root_missing sights.now) roots.now)) }
 {
     let mut least = None;
     for name in roots {
-        least = lesser_of(least, missing_root(modules, name)?);
+        least = lesser_of(least, missing_root(sights, name)?);
     }
     Ok(least)
 }
 
+fn least_at(
+    sights: &Sights,
+    place: usize,
+    earlier: Option<Missing>,
+) -> Result<Option<Missing>, CopyEnd>
+    ensures { IfOk result (λ least. option_map lack_of least ≡ least_from (option_map lack_of earlier) (missing_at sights.now place)) }
+{
+    match sights.sites().get(place) {
+        None => Ok(earlier),
+        Some(site) => {
+            let declaration = &site.observed.declaration;
+            let entries = declaration.required.as_slice();
+            least_of_entries(sights, &declaration.name, entries, earlier)
+        }
+    }
+}
+
 fn least_of_entries(
-    modules: &[Observed],
+    sights: &Sights,
     by: &Name,
     entries: &[Requires],
     earlier: Option<Missing>,
 ) -> Result<Option<Missing>, CopyEnd>
-    requires { RisesBy module_cmp modules.now }
-    ensures { IfOk result (λ least. option_map fields least ≡ least_from (option_map fields earlier) (missing_entries modules.now by.now entries.now)) }
+    ensures { IfOk result (λ least. option_map lack_of least ≡ least_from (option_map lack_of earlier) (missing_entries sights.now by.now entries.now)) }
 {
     let mut least = earlier;
     for entry in entries {
-        least = lesser_of(least, missing_entry(modules, by, entry)?);
+        least = lesser_of(least, missing_entry(sights, by, entry)?);
     }
     Ok(least)
 }
 
-fn missing_root(modules: &[Observed], name: &Name) -> Result<Option<Missing>, CopyEnd>
-    requires { RisesBy module_cmp modules.now }
-    ensures { IfOk result (λ missing. option_map fields missing ≡ root_missing modules.now name.now) }
+fn missing_root(sights: &Sights, name: &Name) -> Result<Option<Missing>, CopyEnd>
+    ensures { IfOk result (λ missing. option_map lack_of missing ≡ root_missing sights.now name.now) }
 {
-    if place_of(modules, name).is_some() {
+    if sights.named(name).is_some() {
         return Ok(None);
     }
     Ok(Some(Missing {
@@ -73,15 +98,10 @@ fn missing_root(modules: &[Observed], name: &Name) -> Result<Option<Missing>, Co
     }))
 }
 
-fn missing_entry(
-    modules: &[Observed],
-    by: &Name,
-    entry: &Requires,
-) -> Result<Option<Missing>, CopyEnd>
-    requires { RisesBy module_cmp modules.now }
-    ensures { IfOk result (λ missing. option_map fields missing ≡ entry_missing modules.now by.now entry.now) }
+fn missing_entry(sights: &Sights, by: &Name, entry: &Requires) -> Result<Option<Missing>, CopyEnd>
+    ensures { IfOk result (λ missing. option_map lack_of missing ≡ entry_missing sights.now by.now entry.now) }
 {
-    if !follows(entry) || place_of(modules, &entry.name).is_some() {
+    if !follows(entry) || sights.named(&entry.name).is_some() {
         return Ok(None);
     }
     Ok(Some(Missing {
@@ -91,7 +111,7 @@ fn missing_entry(
 }
 
 fn lesser_of(least: Option<Missing>, other: Option<Missing>) -> Option<Missing>
-    ensures { option_map fields result ≡ lesser (option_map fields least) (option_map fields other) }
+    ensures { option_map lack_of result ≡ lesser (option_map lack_of least) (option_map lack_of other) }
 {
     match other {
         None => least,

@@ -1,22 +1,14 @@
-use Rattle.std.proofs.Common.{◌≡◌, ◌∙◌, ap}
-use Rattle.std.proofs.lemmas.Result.{IfOk-weaker}
-use Rattle.jl_config.specs.Places.{AreMembers, kept, root_places}
-use Rattle.jl_config.specs.declared.places.Entries.TheVariants.{Followed}
-use Rattle.jl_config.proofs.Chains.{members_right, graph_given, starts_given, roots_within}
+use Rattle.std.proofs.Common.{◌≡◌, ◌∙◌, ap, ap₂, subst, sym, map, List, ℕ}
+use Rattle.jl_config.specs.declared.placed.Placed.{Placed}
+use Rattle.jl_config.specs.Placed.{place_in, marked_place}
+use Rattle.jl_config.specs.Places.{AreMembers}
+use Rattle.jl_config.proofs.MemberPlaces.{members_right}
 use Rattle.jl_config.proofs.members.members_of.Goals as goal
 
-pub returns : goal.returns
-returns c =
-    IfOk-weaker c.copies_of_marked.result (λ ms. ms.items ≡ kept c.args.modules.now c.as_slice-3.result.now) (λ ms. AreMembers c.args.modules.now c.args.roots.now ms.items)
-    (λ ms e.
-    members_right c.args.modules.now c.args.roots.now c.as_slice.result.now c.as_slice-2.result.now c.in_ok-marks.marks.items ms.items
-    (c.as_slice.ensures.value ∙ c.in_ok-next.ensures) (c.as_slice-2.ensures.value ∙ c.in_ok-starts.ensures) c.requires
-    c.in_ok-marks.ensures.only c.in_ok-marks.ensures.all (e ∙ ap (kept c.args.modules.now) c.as_slice-3.ensures.value))
-    c.copies_of_marked.ensures
-
-pub closure-requires-clause-graph : goal.closure-requires-clause-graph
-closure-requires-clause-graph c = graph_given Followed c.args.modules.now c.as_slice.result.now (c.as_slice.ensures.value ∙ c.in_ok-next.ensures)
-
-pub closure-requires-clause-within : goal.closure-requires-clause-within
-closure-requires-clause-within c =
-    starts_given Followed c.args.modules.now c.as_slice.result.now c.as_slice-2.result.now (root_places c.args.modules.now c.args.roots.now) (c.as_slice.ensures.value ∙ c.in_ok-next.ensures) (c.as_slice-2.ensures.value ∙ c.in_ok-starts.ensures) (roots_within c.args.modules.now c.args.roots.now)
+pub returns-clause-places : goal.returns-clause-places
+returns-clause-places c =
+    let w = c.args.sights.now in
+    let xs : List Placed = c.in_ok-placed.placed.items in
+    let finds : (q : List ℕ) → place_in q xs ≡ marked_place q 0 w.sites c.in_ok-marks.marks.items = λ q. c.in_ok-placed.ensures.finds q ∙ ap₂ (λ s m. marked_place q 0 s m) c.sites.ensures c.as_slice.ensures.value in
+    let is : c.in_ok-places.places.items ≡ map (λ (x : Placed). x.place) xs = c.in_ok-places.ensures ∙ ap (map (λ (x : Placed). x.place)) c.as_slice-2.ensures.value in
+    subst (AreMembers w) (sym is) (members_right w c.in_ok-marks.marks.items xs c.in_ok-marks.ensures c.in_ok-placed.ensures.rise finds)

@@ -1,0 +1,109 @@
+-- What a resolution is asked, and where it finds the modules with a name (`Configuration.resolve`).
+use Rattle.std.specs.Prelude.{◌≡◌, ℕ, zero, suc, ◌+◌, List, [], ◌∷◌, ◌++◌, length, map, Option, None, Some, Bool, not, ◌&&◌, ◌==◌, slice_index_or, if◌then◌else◌}
+use Rattle.std.specs.List.{flat_map}
+use Rattle.jl_prim.specs.declared.numbers.ConfigId.{ConfigId}
+use Rattle.jl_prim.specs.declared.declaration.Observed.{Observed}
+use Rattle.jl_logic.specs.Order.{is_text}
+use Rattle.jl_config.specs.declared.site.Site.{Site}
+use Rattle.jl_config.specs.declared.configuration.Read.{Read}
+use Rattle.jl_config.specs.Graphs.{Graph}
+
+-- the configurations that are known, what the two finders observe, the parents, the roots, and whether services are bound
+pub record Asked : Type 0 where
+  pub known : List Graph
+  pub before : List Observed
+  pub parents : List ConfigId
+  pub after : List Observed
+  pub roots : List (List ℕ)
+  pub binds : Bool
+
+-- the number that the configuration gets
+abbrev pub id_of : Asked → ConfigId
+id_of q = record { 0 = length q.known + 1 }
+
+-- ---- ancestors
+
+abbrev pub empty_graph : Graph
+empty_graph = record { id = record { 0 = 0 }; parents = []; modules = []; reads = [] }
+
+-- the configuration with a number; number 0 is the empty one
+abbrev pub graph_of : List Graph → ConfigId → Graph
+graph_of known c = slice_index_or (empty_graph ∷ known) c.0 empty_graph
+
+-- the parent, its parent, and so on, n of them at most
+unfoldable pub lineage : ℕ → List Graph → List ConfigId → List Graph
+lineage zero known ps = []
+lineage (suc n) known [] = []
+lineage (suc n) known (p ∷ ps) = graph_of known p ∷ lineage n known (graph_of known p).parents
+
+-- The ancestors, the nearest first. Parents have lower numbers, so there are no more of them than known ones and the empty one.
+abbrev pub ancestors : Asked → List Graph
+ancestors q = lineage (length q.known + 1) q.known q.parents
+
+-- ---- what is in sight
+
+-- Modules, each with the number of the configuration that has it, in the order in which a name is looked for; and what those of ancestors read.
+pub record Scene : Type 0 where
+  pub id : ConfigId
+  pub sites : List Site
+  pub reads : List (ConfigId × Read)
+  pub roots : List (List ℕ)
+  pub binds : Bool
+
+abbrev pub sites_of : ConfigId → List Observed → List Site
+sites_of id os = map (λ o. record { config = id; observed = o }) os
+
+-- the before finder, the ancestors from the nearest on, the after finder
+abbrev pub scene_of : Asked → Scene
+scene_of q = record {
+  id = id_of q;
+  sites = sites_of (id_of q) q.before ++ flat_map (λ (g : Graph). sites_of g.id g.modules) (ancestors q) ++ sites_of (id_of q) q.after;
+  reads = flat_map (λ (g : Graph). map (λ r. (g.id, r)) g.reads) (ancestors q);
+  roots = q.roots;
+  binds = q.binds;
+}
+
+-- ---- modules by name
+
+abbrev pub name_of : Observed → List ℕ
+name_of o = o.declaration.name
+
+abbrev pub site_name : Site → List ℕ
+site_name s = name_of s.observed
+
+-- the first of a name
+abbrev pub find_named : List ℕ → List Site → Option Site
+find_named name [] = None
+find_named name (s ∷ ss) = if is_text (site_name s) name then Some s else find_named name ss
+
+-- where a name is located
+abbrev pub located : Scene → List ℕ → Option Site
+located w name = find_named name w.sites
+
+abbrev pub is_numbered : ConfigId → ConfigId → Bool
+is_numbered a b = a.0 == b.0
+
+-- The module is one that a finder observes. Others are an ancestor's.
+abbrev pub is_here : Scene → Site → Bool
+is_here w s = is_numbered s.config w.id
+
+-- ---- what an ancestor's module reads
+
+-- the first of a configuration and a name
+abbrev pub find_site : ConfigId → List ℕ → List Site → Option Site
+find_site config name [] = None
+find_site config name (s ∷ ss) = if is_numbered s.config config && is_text (site_name s) name then Some s else find_site config name ss
+
+-- the first entry of a configuration by which a reader reads a name
+abbrev pub find_read : ConfigId → List ℕ → List ℕ → List (ConfigId × Read) → Option Read
+find_read config reader name [] = None
+find_read config reader name (r ∷ rs) =
+    if is_numbered r.0 config && (is_text r.1.reader reader && is_text r.1.name name) then Some r.1 else find_read config reader name rs
+
+abbrev pub read_site : List Site → Option Read → Option Site
+read_site ss None = None
+read_site ss (Some r) = find_site r.config r.name ss
+
+-- the module that a name means to an ancestor's module: the one that its own configuration has it read by that name
+abbrev pub own_meaning : Scene → Site → List ℕ → Option Site
+own_meaning w s name = read_site w.sites (find_read s.config (site_name s) name w.reads)

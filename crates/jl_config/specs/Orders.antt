@@ -1,0 +1,17 @@
+-- The orders of modules and of reads.
+use Rattle.std.specs.Ordering.{ordering_then}
+use Rattle.std.specs.declared.cmp.Ordering.{Ordering}
+use Rattle.jl_prim.specs.declared.declaration.Observed.{Observed}
+use Rattle.jl_logic.specs.Order.{name_cmp}
+use Rattle.jl_config.specs.declared.configuration.Read.{Read}
+use Rattle.jl_config.specs.declared.site.Site.{Site}
+use Rattle.jl_config.specs.Located.{name_of, site_name}
+
+abbrev pub module_cmp : Observed → Observed → Ordering
+module_cmp a b = name_cmp (name_of a) (name_of b)
+
+abbrev pub site_cmp : Site → Site → Ordering
+site_cmp a b = name_cmp (site_name a) (site_name b)
+
+abbrev pub read_cmp : Read → Read → Ordering
+read_cmp r s = ordering_then (name_cmp r.reader s.reader) (name_cmp r.name s.name)
