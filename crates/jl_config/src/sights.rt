@@ -2,7 +2,6 @@
 
 ghost use Rattle.std.specs.Prelude.{◌≡◌, ◌≤◌, length, IfOk};
 ghost use Rattle.jl_config.specs.Located.{scene_of, is_here};
-ghost use Rattle.jl_config.specs.Places.{place_named, own_place};
 ghost use Rattle.jl_config.specs.Resolves.{asked};
 
 use crate::configuration::Configuration;
@@ -66,23 +65,5 @@ impl Sights {
         ensures { result ≡ is_here self.now site.now }
     {
         site.config.0 == self.id.0
-    }
-
-    /// The place of the module that a name means first.
-    pub fn named(&self, name: &Name) -> Option<usize>
-        ensures { result ≡ place_named name.now self.now.sites }
-    {
-        let _ = name;
-        None
-    }
-
-    /// The place of the module that a name means to a module of an ancestor: the one that its own
-    /// configuration has it read.
-    pub fn own(&self, site: &Site, name: &Name) -> Option<usize>
-        ensures { result ≡ own_place self.now site.now name.now }
-    {
-        let _ = site;
-        let _ = name;
-        None
     }
 }
