@@ -39,7 +39,7 @@ fn base(alloc: Global) -> Result<Observed, CopyEnd>
             is_open: false,
             version: None,
             required: Items::new(alloc),
-            exports: exports(alloc)?,
+            exports: exports(alloc, &SHOWN)?,
             opens: Items::new(alloc),
             uses: Items::new(alloc),
             provides: Items::new(alloc),
@@ -50,11 +50,12 @@ fn base(alloc: Global) -> Result<Observed, CopyEnd>
     })
 }
 
-fn exports(alloc: Global) -> Result<Items<Grant>, CopyEnd>
-    ensures { IfOk result (λ grants. grants ≡ map to_all shown_packages) }
+/// Exports of these packages to all.
+fn exports(alloc: Global, texts: &[&str]) -> Result<Items<Grant>, CopyEnd>
+    ensures { IfOk result (λ grants. grants ≡ map (λ text. to_all text.now) texts.now) }
 {
     let mut grants = Vec::new(alloc);
-    for text in &SHOWN {
+    for text in texts {
         grants.push(Grant {
             package: Name::from_text(alloc, text)?,
             to: None,

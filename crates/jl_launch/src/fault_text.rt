@@ -2,6 +2,7 @@
 
 ghost use Rattle.std.specs.Prelude.{◌≡◌, ◌++◌, codes, IfOk};
 ghost use Rattle.std.specs.String.{string_bytes};
+ghost use Rattle.jl_config.specs.declared.fault.ResolveFault.TheVariants.{SamePackage, OwnPackage};
 ghost use Rattle.jl_launch.specs.Text as lines;
 
 use crate::end::Refusal;
@@ -9,6 +10,7 @@ use jl_config::ResolveFault;
 use jl_finder::FindFault;
 use jl_modinfo::InfoFault;
 use jl_names::dotted;
+use jl_prim::Name;
 use jl_words::WordFault;
 use std::alloc::{AllocError, Global};
 
@@ -118,22 +120,49 @@ fn resolve_text(alloc: Global, fault: &ResolveFault) -> Result<String, AllocErro
             package,
             one,
             other,
-        } => {
-            let package = dotted(alloc, package.as_str())?;
-            format!(in alloc; "SamePackage {reader} {package} {one} {other}")
-        }
+        } => same_package_text(alloc, reader, package, one, other),
         ResolveFault::OwnPackage {
             reader,
             package,
             other,
-        } => {
-            let package = dotted(alloc, package.as_str())?;
-            format!(in alloc; "OwnPackage {reader} {package} {other}")
-        }
+        } => own_package_text(alloc, reader, package, other),
         ResolveFault::ServicePackage { module, service } => {
             let service = dotted(alloc, service.as_str())?;
             format!(in alloc; "ServicePackage {module} {service}")
         }
         ResolveFault::NoMemory => String::from_str(alloc, "NoMemory"),
     }
+}
+
+fn same_package_text(
+    alloc: Global,
+    reader: &Name,
+    held: &Name,
+    one: &Name,
+    other: &Name,
+) -> Result<String, AllocError>
+    ensures { IfOk result (λ text. string_bytes text ≡ lines.resolve_text (SamePackage reader.now held.now one.now other.now)) }
+{
+    let package = dotted(alloc, held.as_str())?;
+    let of_package = format!(in alloc; "SamePackage {reader} {package}")?;
+    with_both(alloc, of_package.as_str(), one, other)
+}
+
+fn with_both(alloc: Global, text: &str, one: &Name, other: &Name) -> Result<String, AllocError>
+    ensures { IfOk result (λ all. string_bytes all ≡ text.now ++ lines.field one.now ++ lines.field other.now) }
+{
+    format!(in alloc; "{text} {one} {other}")
+}
+
+fn own_package_text(
+    alloc: Global,
+    reader: &Name,
+    held: &Name,
+    other: &Name,
+) -> Result<String, AllocError>
+    ensures { IfOk result (λ text. string_bytes text ≡ lines.resolve_text (OwnPackage reader.now held.now other.now)) }
+{
+    let package = dotted(alloc, held.as_str())?;
+    let of_package = format!(in alloc; "OwnPackage {reader} {package}")?;
+    format!(in alloc; "{of_package} {other}")
 }

@@ -1,8 +1,9 @@
 //! How a module graph is printed.
 
-ghost use Rattle.std.specs.Prelude.{◌≡◌, ◌++◌, not, map, filter, IfOk, OnOk};
+ghost use Rattle.std.specs.Prelude.{◌≡◌, ◌≤◌, ◌-◌, ◌++◌, codes, not, length, take, drop, map, filter, IfOk, OnOk};
 ghost use Rattle.std.specs.String.{string_bytes};
-ghost use Rattle.jl_logic.specs.Order.{is_text, RisesBy};
+ghost use Rattle.std.specs.Ordering.{is_lt, is_le};
+ghost use Rattle.jl_logic.specs.Order.{is_text, name_cmp, RisesBy};
 ghost use Rattle.jl_config.specs.Orders.{read_cmp};
 ghost use Rattle.jl_launch.specs.Text as lines;
 
@@ -34,8 +35,20 @@ fn print_module(
     ensures { OnOk result (map string_bytes printed.new.items ≡ map string_bytes printed.old.items ++ lines.module_lines reads.now observed.now) }
 {
     let name = &observed.declaration.name;
-    printed.push(format!(in alloc; "module {name}\n")?)?;
-    for read in reads_of(reads, name) {
+    printed.push(module_line(alloc, name)?)?;
+    print_reads(alloc, printed, name, reads_of(reads, name))
+}
+
+/// Adds the lines of what a module reads without itself.
+fn print_reads(
+    alloc: Global,
+    printed: &mut Vec<String>,
+    name: &Name,
+    reads: &[Read],
+) -> Result<(), AllocError>
+    ensures { OnOk result (map string_bytes printed.new.items ≡ map string_bytes printed.old.items ++ map lines.read_line (filter (λ r. not (is_text r.name name.now)) reads.now)) }
+{
+    for read in reads {
         if read.name != *name {
             printed.push(read_line(alloc, read)?)?;
         }
@@ -43,14 +56,39 @@ fn print_module(
     Ok(())
 }
 
-/// What a reader reads. Its reads stand side by side, so two searches find them.
+/// What a reader reads. Its reads stand side by side.
 fn reads_of<'a>(reads: &'a [Read], reader: &Name) -> &'a [Read]
     requires { RisesBy read_cmp reads.now }
     ensures { result.now ≡ filter (λ r. is_text r.reader reader.now) reads.now }
 {
-    let from = reads.partition_point(|read| read.reader < *reader);
-    let to = reads.partition_point(|read| read.reader <= *reader);
+    let (from, to) = span_of(reads, reader);
     &reads[from..to]
+}
+
+/// Where the reads of a reader begin and end, by two searches.
+fn span_of(reads: &[Read], reader: &Name) -> (usize, usize)
+    requires { RisesBy read_cmp reads.now }
+    ensures ordered { result.0 ≤ result.1 }
+    ensures bound { result.1 ≤ length reads.now }
+    ensures cut { take (result.1 - result.0) (drop result.0 reads.now) ≡ filter (λ r. is_text r.reader reader.now) reads.now }
+{
+    let from = reads.partition_point(
+        |read: &Read| -> bool
+            ensures { result ≡ is_lt (name_cmp read.now.reader reader.entry.now) }
+        { read.reader < *reader },
+    );
+    let to = reads.partition_point(
+        |read: &Read| -> bool
+            ensures { result ≡ is_le (name_cmp read.now.reader reader.entry.now) }
+        { read.reader <= *reader },
+    );
+    (from, to)
+}
+
+fn module_line(alloc: Global, name: &Name) -> Result<String, AllocError>
+    ensures { IfOk result (λ line. string_bytes line ≡ lines.line (codes "module " ++ name.now)) }
+{
+    format!(in alloc; "module {name}\n")
 }
 
 fn read_line(alloc: Global, read: &Read) -> Result<String, AllocError>
