@@ -15,4 +15,8 @@ pub use launching::launch;
 pub use law::{launches_always, launches_once};
 
 #[cfg(test)]
+mod outside_tests;
+#[cfg(test)]
+mod sample_modules;
+#[cfg(test)]
 mod tests;
