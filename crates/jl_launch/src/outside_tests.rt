@@ -1,7 +1,7 @@
 use super::*;
 use crate::sample_modules::{files_in, smallest_info, words_in};
 use crate::tests::launched;
-use jl_prim::{Items, Name};
+use jl_prim::{CopyEnd, Items, Name};
 use jl_tree::{Entry, MemSink, MemTree, Sink, SinkFault, Tree, TreeFault};
 use std::alloc::Global;
 use std::test::*;
@@ -107,7 +107,7 @@ impl Liar {
     }
 }
 
-fn entry(alloc: Global, name: &str, is_dir: bool) -> Result<Entry, TreeFault> {
+fn entry(alloc: Global, name: &str, is_dir: bool) -> Result<Entry, CopyEnd> {
     Ok(Entry {
         name: Name::from_text(alloc, name)?,
         is_dir,
