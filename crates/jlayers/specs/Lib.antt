@@ -1,6 +1,0 @@
-pub mod Statuses
-pub mod Command
-pub mod Text
-pub mod Launched
-pub mod Writing
-pub mod Unique

@@ -1,18 +1,8 @@
 //! `jlayers` resolves Java modules that are kept in folders, and prints the module graph.
 #![tactic(auto)]
 
-mod end;
-mod launching;
-mod law;
-#[cfg(test)]
-mod tests;
-mod text;
-mod words;
-mod writing;
-
-use end::status_of;
+use jl_launch::{launch, status_of};
 use jl_tree::{FolderTree, StdoutSink};
-use launching::launch;
 use std::alloc::Global;
 use std::env;
 use std::io::{self, ErrorKind};

@@ -1,0 +1,39 @@
+-- The built-in java.base.
+use Rattle.std.specs.Prelude.{ℕ, List, [], ◌∷◌, ◌++◌, map, None, codes, false}
+use Rattle.jl_prim.specs.declared.declaration.Grant.{Grant}
+use Rattle.jl_prim.specs.declared.declaration.Observed.{Observed}
+
+-- the packages that it exports to all
+abbrev pub shown_packages : List (List ℕ)
+shown_packages = codes "java/lang"
+    ∷ codes "java/lang/module"
+    ∷ codes "java/lang/reflect"
+    ∷ codes "java/util"
+    ∷ codes "java/io"
+    ∷ codes "java/nio/file"
+    ∷ []
+
+-- those that it has for itself
+abbrev pub hidden_packages : List (List ℕ)
+hidden_packages = codes "jdk/internal" ∷ []
+
+abbrev pub to_all : List ℕ → Grant
+to_all p = record { «package» = p; to = None }
+
+-- It requires nothing, and has no place.
+abbrev pub built_in_base : Observed
+built_in_base = record {
+  declaration = record {
+    name = codes "java.base";
+    is_open = false;
+    version = None;
+    required = [];
+    exports = map to_all shown_packages;
+    opens = [];
+    uses = [];
+    provides = [];
+    packages = shown_packages ++ hidden_packages;
+    main = None;
+  };
+  place = [];
+}

@@ -1,0 +1,108 @@
+-- What is printed, as lines.
+use Rattle.std.specs.Prelude.{ℕ, List, [], ◌∷◌, ◌++◌, map, filter, Option, None, Some, not, ◌&&◌, codes}
+use Rattle.std.specs.List.{flat_map}
+use Rattle.std.specs.Fmt.{decimal}
+use Rattle.jl_prim.specs.declared.declaration.Observed.{Observed}
+use Rattle.jl_modinfo.specs.declared.fault.InfoFault.{InfoFault}
+use Rattle.jl_modinfo.specs.declared.fault.InfoFault.TheVariants as infos
+use Rattle.jl_config.specs.declared.configuration.Read.{Read}
+use Rattle.jl_config.specs.declared.fault.ResolveFault.{ResolveFault}
+use Rattle.jl_config.specs.declared.fault.ResolveFault.TheVariants as resolves
+use Rattle.jl_config.specs.Graphs.{Graph}
+use Rattle.jl_finder.specs.declared.fault.FindFault.{FindFault}
+use Rattle.jl_finder.specs.declared.fault.FindFault.TheVariants as finds
+use Rattle.jl_words.specs.declared.fault.WordFault.{WordFault}
+use Rattle.jl_words.specs.declared.fault.WordFault.TheVariants as words
+use Rattle.jl_launch.specs.declared.end.Refusal.{Refusal}
+use Rattle.jl_launch.specs.declared.end.Refusal.TheVariants as refusals
+use Rattle.jl_logic.specs.Order.{is_text}
+use Rattle.jl_names.specs.Dots.{dotted}
+
+-- a blank and a text
+abbrev pub field : List ℕ → List ℕ
+field text = codes " " ++ text
+
+-- A fault is printed as its kind, and behind it its fields.
+abbrev pub info_text : InfoFault → List ℕ
+info_text infos.BadMagic = codes "BadMagic"
+info_text infos.BadVersion = codes "BadVersion"
+info_text (infos.Short at) = codes "Short" ++ field (decimal at)
+info_text (infos.BadPool i) = codes "BadPool" ++ field (decimal i)
+info_text (infos.NotModule name) = codes "NotModule" ++ field name
+info_text infos.NoModuleAttribute = codes "NoModuleAttribute"
+info_text (infos.BadIndex at) = codes "BadIndex" ++ field (decimal at)
+info_text (infos.Repeated table name) = codes "Repeated" ++ field table ++ field (dotted name)
+info_text infos.BaseRule = codes "BaseRule"
+info_text (infos.PackageMissing name) = codes "PackageMissing" ++ field (dotted name)
+info_text infos.Trailing = codes "Trailing"
+info_text infos.NoMemory = codes "NoMemory"
+
+abbrev pub find_text : FindFault → List ℕ
+find_text (finds.Info path f) = codes "Info" ++ field path ++ field (info_text f)
+find_text (finds.Archive path) = codes "Archive" ++ field path
+find_text (finds.TwoInDirectory dir name) = codes "TwoInDirectory" ++ field dir ++ field name
+find_text (finds.TopLevelClass path) = codes "TopLevelClass" ++ field path
+find_text (finds.TooLarge path n) = codes "TooLarge" ++ field path ++ field (decimal n)
+find_text finds.TooMany = codes "TooMany"
+find_text finds.ReadFault = codes "ReadFault"
+find_text finds.NoMemory = codes "NoMemory"
+
+-- an absent name is a dash
+abbrev pub optional_text : Option (List ℕ) → List ℕ
+optional_text None = codes "-"
+optional_text (Some name) = name
+
+-- Packages and services are printed with dots.
+abbrev pub resolve_text : ResolveFault → List ℕ
+resolve_text resolves.NoParents = codes "NoParents"
+resolve_text (resolves.NotFound name by) = codes "NotFound" ++ field name ++ field (optional_text by)
+resolve_text resolves.TooMany = codes "TooMany"
+resolve_text (resolves.Cycle least) = codes "Cycle" ++ field least
+resolve_text (resolves.SameName reader name) = codes "SameName" ++ field reader ++ field name
+resolve_text (resolves.SamePackage reader p one other) = codes "SamePackage" ++ field reader ++ field (dotted p) ++ field one ++ field other
+resolve_text (resolves.OwnPackage reader p other) = codes "OwnPackage" ++ field reader ++ field (dotted p) ++ field other
+resolve_text (resolves.ServicePackage name service) = codes "ServicePackage" ++ field name ++ field (dotted service)
+resolve_text resolves.NoMemory = codes "NoMemory"
+
+abbrev pub word_text : WordFault → List ℕ
+word_text words.NoCommand = codes "NoCommand"
+word_text (words.UnknownWord at) = codes "UnknownWord" ++ field (decimal at)
+word_text (words.Missing what) = codes "Missing" ++ field what
+word_text (words.Repeated option) = codes "Repeated" ++ field option
+word_text (words.BadNumber at) = codes "BadNumber" ++ field (decimal at)
+word_text (words.BadTarget at) = codes "BadTarget" ++ field (decimal at)
+word_text words.NotBuilt = codes "NotBuilt"
+word_text words.NoMemory = codes "NoMemory"
+
+abbrev pub refusal_text : Refusal → List ℕ
+refusal_text (refusals.Find f) = codes "Find" ++ field (find_text f)
+refusal_text (refusals.Resolve f) = codes "Resolve" ++ field (resolve_text f)
+
+-- ---- lines, each with its end
+
+abbrev pub line : List ℕ → List ℕ
+line text = text ++ 10 ∷ []
+
+abbrev pub words_line : WordFault → List ℕ
+words_line f = line (codes "words: " ++ word_text f)
+
+abbrev pub refusal_line : Refusal → List ℕ
+refusal_line r = line (codes "refused: " ++ refusal_text r)
+
+abbrev pub module_line : Observed → List ℕ
+module_line o = line (codes "module " ++ o.declaration.name)
+
+abbrev pub read_line : Read → List ℕ
+read_line r = line (codes "  reads " ++ r.name)
+
+-- what a module reads without itself
+abbrev pub other_reads : List Read → Observed → List Read
+other_reads reads o = filter (λ r. is_text r.reader o.declaration.name && not (is_text r.name o.declaration.name)) reads
+
+-- a module, and under it what it reads
+abbrev pub module_lines : List Read → Observed → List (List ℕ)
+module_lines reads o = module_line o ∷ map read_line (other_reads reads o)
+
+-- each module in order, and under it what it reads
+abbrev pub graph_lines : Graph → List (List ℕ)
+graph_lines g = flat_map (module_lines g.reads) g.modules

@@ -1,8 +1,0 @@
-use Rattle.std.proofs.Common.{◌≡◌, map, take}
-use Rattle.std.specs.List.{flat_map}
-use Rattle.std.specs.String.{string_bytes}
-use Rattle.jlayers.specs.Text as lines
-use Rattle.jlayers.proofs.text.graph_lines.Given as goal
-
-abbrev pub invariant-loop-observed : goal.invariant-loop-observed
-invariant-loop-observed l = map string_bytes l.printed.items ≡ flat_map (lines.module_lines l.reads) (take l.observed-index l.observed-items)

@@ -1,9 +1,0 @@
-use Rattle.std.proofs.Common.{length}
-use Rattle.jlayers.proofs.Progress.{Progress}
-use Rattle.jlayers.proofs.writing.write_line.Given as goal
-
-abbrev pub invariant-loop-rest : goal.invariant-loop-rest
-invariant-loop-rest g l = Progress l.line l.rest (g.S.Sink.taken l.fn.out) (g.S.Sink.taken l.out) (g.S.Sink.faults l.fn.out) (g.S.Sink.faults l.out)
-
-abbrev pub decreases-loop-rest : goal.decreases-loop-rest
-decreases-loop-rest g l = length l.rest
