@@ -254,6 +254,30 @@ fn have_lengths(alloc: Global, pool: &Pool) -> bool {
     true
 }
 
+/// Whether `wide` is no instruction just before the opcodes that it does not widen.
+fn widens(alloc: Global, pool: &Pool) -> bool {
+    for op in 0..=255 {
+        let is_widened = matches!(op, 21..=25 | 54..=58 | 132);
+        let code = [196, op, 0, 0, 0, 0];
+        if is_fault(alloc, pool, &code, CodeFault::UnknownOp(0)) == is_widened {
+            return false;
+        }
+    }
+    true
+}
+
+/// Whether a branch over instructions at 3, 5 and 8 leads to them and to itself alone.
+fn leads_to_starts(alloc: Global, pool: &Pool) -> bool {
+    for offset in 0..=255 {
+        let is_start = matches!(offset, 0 | 3 | 5 | 8);
+        let code = [0xa7, 0, offset, 0x10, 0, 0x11, 0, 0, 0xb1];
+        if is_fault(alloc, pool, &code, CodeFault::BadTarget(0)) == is_start {
+            return false;
+        }
+    }
+    true
+}
+
 /// Switches on 5 and 6, which lead to their first instruction, at places 0 to 3.
 const TABLES: [[u8; 27]; 4] = [
     [
@@ -361,6 +385,8 @@ fn read_lookups(alloc: Global, pool: &Pool) -> bool {
 fn operands(rt: HostRuntime) -> Result<(), Fail> {
     let (pool, _) = read_pool(rt.alloc(), &POOL, 0)?;
     assert!(rt; have_lengths(rt.alloc(), &pool));
+    assert!(rt; widens(rt.alloc(), &pool));
+    assert!(rt; leads_to_starts(rt.alloc(), &pool));
     assert!(rt; read_tables(rt.alloc(), &pool));
     assert!(rt; read_lookups(rt.alloc(), &pool));
     Ok(())
