@@ -4,6 +4,7 @@ use Rattle.std.proofs.lemmas.List.{map-append}
 use Rattle.jl_prim.specs.declared.declaration.Observed.{Observed}
 use Rattle.jl_logic.specs.Order.{IsLeast}
 use Rattle.jl_config.specs.declared.fault.ResolveFault.{ResolveFault}
+use Rattle.jl_config.specs.declared.fault.ResolveFault.TheVariants.{TooMany}
 use Rattle.jl_config.specs.declared.site.Site.{Site}
 use Rattle.jl_config.specs.Graphs.{Graph}
 use Rattle.jl_config.specs.Located.{Asked, Scene, scene_of, id_of}
@@ -11,8 +12,9 @@ use Rattle.jl_config.specs.MemberRows.{modules_at}
 use Rattle.jl_config.specs.Places.{AreMembers, IsLeastSome, sites_at}
 use Rattle.jl_config.specs.Refusals.{IsLarge, most, fault_cmp, Applies}
 use Rattle.jl_config.specs.Resolves.{Resolves, AreReads, AreJustified, IsGraphOf}
+use Rattle.jl_config.specs.Settled.{StartsAt, Settles}
 use Rattle.jl_config.proofs.Always.{IsTooMany}
-use Rattle.jl_config.proofs.Assembled.{IsKind, NoneBefore, NoParentsFault, TooManyFault, none_at_first, none_further, nothing_applies, first_refusal, no_parents_kind, too_many_kind, large_by_places, not_large_by_places, modules_by_places, justified_by_members}
+use Rattle.jl_config.proofs.Assembled.{IsKind, NoneBefore, NoParentsFault, TooManyFault, none_at_first, none_further, nothing_applies, first_refusal, too_many_first, no_parents_kind, too_many_kind, large_by_places, not_large_by_places, modules_by_places, justified_by_members}
 use Rattle.jl_config.proofs.MemberLists.{filter_map_step}
 
 any_default : (ps : List ℕ) (i a b : ℕ) → i < length ps → get_or ps i a ≡ get_or ps i b
@@ -88,3 +90,25 @@ module _ (q : Asked) (w : Scene) (same : w ≡ scene_of q) (ps : List ℕ) (memb
 
   pub graph_resolves : NoneBefore q 8 → Resolves q (Ok g)
   graph_resolves before = (nothing_applies q before, graph_is)
+
+-- a search for one kind, where none applies before
+module _ (K : Scene → ResolveFault → Type 0) (k : ℕ) (kind : (q : Asked) → IsKind q k (K (scene_of q))) (w : Scene) (found : Option ResolveFault) (sought : IsLeastSome fault_cmp (K w) found) where
+  pub settled : (f : ResolveFault) → found ≡ Some f → (q : Asked) → w ≡ scene_of q → StartsAt q k → Resolves q (Err f)
+  settled f e q same before = refused q w same K k (kind q) (record { least = before }) found sought f e
+
+  pub goes_on : found ≡ None → (q : Asked) → w ≡ scene_of q → StartsAt q k → StartsAt q (suc k)
+  goes_on e q same before = (none_next q w same K k (kind q) (record { least = before }) found sought e).least
+
+  pub settles : (q : Asked) → w ≡ scene_of q → StartsAt q k → Settles q (suc k) found
+  settles q same before = by found refl
+    where
+      by : (o : Option ResolveFault) → found ≡ o → Settles q (suc k) o
+      by None e = goes_on e q same before
+      by (Some f) e = settled f e q same before
+
+pub too_many_settled : (w : Scene) (ps : List ℕ) (known : ℕ) → AreMembers w ps → (4096 < length ps) ⊎ (4096 ≤ known) → (q : Asked) → w ≡ scene_of q → length q.known ≡ known → StartsAt q 2 → Resolves q (Err TooMany)
+too_many_settled w ps known members h q same long before =
+    too_many_first q (record { least = before }) (⊎_elim (λ m. many_members q w ps same members m) (λ k. many_known q (subst (λ (n : ℕ). 4096 ≤ n) (sym long) k)) h)
+
+pub few_go_on : (w : Scene) (ps : List ℕ) (known : ℕ) → AreMembers w ps → length ps ≤ 4096 → known < 4096 → (q : Asked) → w ≡ scene_of q → length q.known ≡ known → StartsAt q 2 → StartsAt q 3
+few_go_on w ps known members a b q same long before = (after_many q w ps same members a (subst (λ (n : ℕ). n < 4096) (sym long) b) (record { least = before })).least
