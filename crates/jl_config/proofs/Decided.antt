@@ -112,3 +112,14 @@ too_many_settled w ps known members h q same long before =
 
 pub few_go_on : (w : Scene) (ps : List ℕ) (known : ℕ) → AreMembers w ps → length ps ≤ 4096 → known < 4096 → (q : Asked) → w ≡ scene_of q → length q.known ≡ known → StartsAt q 2 → StartsAt q 3
 few_go_on w ps known members a b q same long before = (after_many q w ps same members a (subst (λ (n : ℕ). n < 4096) (sym long) b) (record { least = before })).least
+
+-- a search that found nothing
+pub none_of : (K : Scene → ResolveFault → Type 0) (w : Scene) (found : Option ResolveFault) → IsLeastSome fault_cmp (K w) found → found ≡ None → (f : ResolveFault) → K w f → ⊥
+none_of K w found sought e = subst (λ (o : Option ResolveFault). IsLeastSome fault_cmp (K w) o) e sought
+
+-- what was settled, once it is known whether anything was found
+pub settled_by : (k : ℕ) (w : Scene) (A : Asked → Type 0) (found : Option ResolveFault) → ((q : Asked) → w ≡ scene_of q → A q → Settles q k found) → (f : ResolveFault) → found ≡ Some f → (q : Asked) → w ≡ scene_of q → A q → Resolves q (Err f)
+settled_by k w A found h f e q same a = subst (λ (o : Option ResolveFault). Settles q k o) e (h q same a)
+
+pub starts_by : (k : ℕ) (w : Scene) (A : Asked → Type 0) (found : Option ResolveFault) → ((q : Asked) → w ≡ scene_of q → A q → Settles q k found) → found ≡ None → (q : Asked) → w ≡ scene_of q → A q → StartsAt q k
+starts_by k w A found h e q same a = subst (λ (o : Option ResolveFault). Settles q k o) e (h q same a)
