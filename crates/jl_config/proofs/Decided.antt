@@ -85,9 +85,6 @@ module _ (q : Asked) (w : Scene) (same : w ≡ scene_of q) (ps : List ℕ) (memb
     reads = subst (λ (v : Scene). AreReads v g.reads) same reads;
   }
 
-  pub graph_justified : AreJustified q g
-  graph_justified = justified_by_members q g (modules_by_places q ps g.modules (subst (λ (v : Scene). AreMembers v ps) same members) (modules ∙ ap (λ (v : Scene). modules_at v ps) same))
-
   pub graph_resolves : NoneBefore q 8 → Resolves q (Ok g)
   graph_resolves before = (nothing_applies q before, graph_is)
 
@@ -117,9 +114,6 @@ few_go_on w ps known members a b q same long before = (after_many q w ps same me
 pub none_of : (K : Scene → ResolveFault → Type 0) (w : Scene) (found : Option ResolveFault) → IsLeastSome fault_cmp (K w) found → found ≡ None → (f : ResolveFault) → K w f → ⊥
 none_of K w found sought e = subst (λ (o : Option ResolveFault). IsLeastSome fault_cmp (K w) o) e sought
 
--- what was settled, once it is known whether anything was found
-pub settled_by : (k : ℕ) (w : Scene) (A : Asked → Type 0) (found : Option ResolveFault) → ((q : Asked) → w ≡ scene_of q → A q → Settles q k found) → (f : ResolveFault) → found ≡ Some f → (q : Asked) → w ≡ scene_of q → A q → Resolves q (Err f)
-settled_by k w A found h f e q same a = subst (λ (o : Option ResolveFault). Settles q k o) e (h q same a)
-
-pub starts_by : (k : ℕ) (w : Scene) (A : Asked → Type 0) (found : Option ResolveFault) → ((q : Asked) → w ≡ scene_of q → A q → Settles q k found) → found ≡ None → (q : Asked) → w ≡ scene_of q → A q → StartsAt q k
-starts_by k w A found h e q same a = subst (λ (o : Option ResolveFault). Settles q k o) e (h q same a)
+-- and each of its modules ends a justified list
+pub justified_of : (q : Asked) (w : Scene) → w ≡ scene_of q → (ps : List ℕ) → AreMembers w ps → (g : Graph) → g.modules ≡ modules_at w ps → AreJustified q g
+justified_of q w same ps members g modules = justified_by_members q g (modules_by_places q ps g.modules (subst (λ (v : Scene). AreMembers v ps) same members) (modules ∙ ap (λ (v : Scene). modules_at v ps) same))
