@@ -66,7 +66,12 @@ fn row_of_edges(
     ensures { IfOk result (λ row. row ≡ edge_row sights.now marks.now site.now) }
 {
     let mut row = Vec::new(alloc);
-    push_edges(&mut row, sights, marks, site.observed.declaration.required.as_slice())?;
+    push_edges(
+        &mut row,
+        sights,
+        marks,
+        site.observed.declaration.required.as_slice(),
+    )?;
     Ok(Items::from_vec(row))
 }
 

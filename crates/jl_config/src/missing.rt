@@ -21,10 +21,7 @@ pub struct Missing {
 }
 
 /// The refusal with the least of the roots, and of what the members require, that is not located.
-pub fn least_not_found(
-    sights: &Sights,
-    members: &Members,
-) -> Result<Option<ResolveFault>, CopyEnd>
+pub fn least_not_found(sights: &Sights, members: &Members) -> Result<Option<ResolveFault>, CopyEnd>
     requires { AreMembers sights.now members.now.places.items }
     ensures { IfOk result (λ found. IsLeastSome fault_cmp (MissingFault sights.now) found) }
 {
@@ -101,11 +98,7 @@ fn missing_root(sights: &Sights, name: &Name) -> Result<Option<Missing>, CopyEnd
     }))
 }
 
-fn missing_entry(
-    sights: &Sights,
-    by: &Name,
-    entry: &Requires,
-) -> Result<Option<Missing>, CopyEnd>
+fn missing_entry(sights: &Sights, by: &Name, entry: &Requires) -> Result<Option<Missing>, CopyEnd>
     ensures { IfOk result (λ missing. option_map lack_of missing ≡ entry_missing sights.now by.now entry.now) }
 {
     if !follows(entry) || sights.named(&entry.name).is_some() {

@@ -42,10 +42,7 @@ fn is_here_at(sights: &Sights, place: usize) -> bool
 }
 
 /// The services, and with binding for each the places of the modules that provide it.
-pub fn providers_of(
-    alloc: Global,
-    sights: &Sights,
-) -> Result<IndexMap<Name, Items<usize>>, CopyEnd>
+pub fn providers_of(alloc: Global, sights: &Sights) -> Result<IndexMap<Name, Items<usize>>, CopyEnd>
     ensures { IfOk result (λ table. (service : List ℕ) → listed table service ≡ providers (offers sights.now) service) }
 {
     let provisions = offers_of(alloc, sights)?;
@@ -129,11 +126,7 @@ fn note_provider(
     Ok(())
 }
 
-fn taken(
-    alloc: Global,
-    table: &mut IndexMap<Name, Items<usize>>,
-    service: &Name,
-) -> Items<usize>
+fn taken(alloc: Global, table: &mut IndexMap<Name, Items<usize>>, service: &Name) -> Items<usize>
     ensures places { result ≡ listed table.old service.now }
     ensures others { (q : List ℕ) → is_text service.now q ≡ false → get (pointwise nat_eq) table.new q ≡ get (pointwise nat_eq) table.old q }
 {

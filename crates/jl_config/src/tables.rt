@@ -10,11 +10,7 @@ use indexmap::IndexMap;
 use jl_prim::{Copied, CopyEnd, Name};
 
 /// Notes a place of a name that has none yet.
-pub fn note_first(
-    places: &mut IndexMap<Name, usize>,
-    name: &Name,
-    at: usize,
-) -> Result<(), CopyEnd>
+pub fn note_first(places: &mut IndexMap<Name, usize>, name: &Name, at: usize) -> Result<(), CopyEnd>
     ensures { OnOk result ((q : List ℕ) → get (pointwise nat_eq) places.new q ≡ or_at (get (pointwise nat_eq) places.old q) (is_text name.now q) at) }
 {
     if places.get(name).is_none() {
