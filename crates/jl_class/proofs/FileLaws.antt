@@ -15,6 +15,8 @@ use Rattle.jl_pool.specs.Spelling.{StandsPool}
 use Rattle.jl_pool.proofs.Whole.{pool_stands, pool_again}
 use Rattle.jl_class.specs.declared.fault.ClassFault.{ClassFault}
 use Rattle.jl_class.specs.declared.fault.ClassFault.TheVariants as faults
+use Rattle.jl_class.specs.declared.member.FieldDecl.{FieldDecl}
+use Rattle.jl_class.specs.declared.member.MethodDecl.{MethodDecl}
 use Rattle.jl_class.specs.Classes.{Class}
 use Rattle.jl_class.specs.Faults.{told, short, pool_or}
 use Rattle.jl_class.specs.Meaning.{is_interface, are_class_flags, class_named, super_named, may_extend, is_of_modules, names_nothing}
@@ -236,6 +238,17 @@ not_read (Some name) = refl
 none_read : (pool : List Entry) (attributes : List Attribute) → contents pool names_nothing attributes ≡ []
 none_read pool [] = refl
 none_read pool (a ∷ attributes) = rw (not_read (text_of pool a.index)) (none_read pool attributes)
+
+-- a file whose parts are read one after the other
+pub whole_read : (bytes : List ℕ) (version : ℕ × ℕ) (a1 : ℕ) (pool : List Entry) (a2 flags a3 : ℕ) (name : List ℕ) (a4 : ℕ) (super : Option (List ℕ)) (a5 : ℕ) (interfaces : List (List ℕ)) (a6 : ℕ)
+    (fields : List FieldDecl) (a7 : ℕ) (methods : List MethodDecl) (a8 a9 : ℕ)
+    → front_at bytes ≡ Ok (version, a1) → class_pool_at bytes a1 ≡ Ok (pool, a2) → flags_at are_class_flags bytes a2 ≡ Ok (flags, a3) → named_at (class_named pool) bytes a3 ≡ Ok (name, a4)
+    → super_at flags name pool bytes a4 ≡ Ok (super, a5) → interfaces_at pool bytes a5 ≡ Ok (interfaces, a6) → fields_at (is_interface flags) pool bytes a6 ≡ Ok (fields, a7)
+    → methods_at pool bytes a7 ≡ Ok (methods, a8) → others_at pool bytes a8 ≡ Ok (None, a9) → a9 ≡ length bytes
+    → class_of bytes ≡ Ok (record { major = version.0; minor = version.1; flags = flags; name = name; super_name = super; interfaces = interfaces; fields = fields; methods = methods; pool = pool })
+unfolding class_of
+whole_read bytes version a1 pool a2 flags a3 name a4 super a5 interfaces a6 fields a7 methods a8 a9 e1 e2 e3 e4 e5 e6 e7 e8 e9 end =
+    bind_to _ e1 (bind_to _ e2 (bind_to _ e3 (bind_to _ e4 (bind_to _ e5 (bind_to _ e6 (bind_to _ e7 (bind_to _ e8 (bind_to _ e9 (rw (eq-eqb a9 (length bytes) end) refl)))))))))
 
 pub class_reads : (bytes : List ℕ) (c : Class) → IsClass bytes c → class_of bytes ≡ Ok c
 unfolding class_of interfaces_at others_at
