@@ -1,5 +1,5 @@
 -- What the readings say as reads.
-use Rattle.std.proofs.Common.{◌≡◌, ◌≢◌, ◌<◌, ◌≤◌, ◌+◌, ℕ, List, [], ◌∷◌, ◌++◌, length, map, take, get_or, slice_get, flat_map, ⊎_elim, refl, sym, ◌∙◌, ap, subst, Contains, Option, Some, None, Ordering, Less, Equal, Greater}
+use Rattle.std.proofs.Common.{◌≡◌, ◌≤◌, ℕ, List, [], ◌∷◌, length, map, take, slice_get, flat_map, refl, sym, ◌∙◌, ap, subst, Contains, Some, Ordering, Less, Equal, Greater}
 use Rattle.std.specs.List.{AllByRecursion}
 use Rattle.std.specs.Ordering.{ordering_then, nat_cmp}
 use Rattle.std.specs.Cmp.Lexicographic.{nat_list_cmp_total}
@@ -13,13 +13,12 @@ use Rattle.jl_config.specs.declared.fault.ResolveFault.TheVariants.{SameName}
 use Rattle.jl_config.specs.declared.readings.Reading.{Reading}
 use Rattle.jl_config.specs.declared.site.Site.{Site}
 use Rattle.jl_config.specs.Located.{Scene, site_name}
-use Rattle.jl_config.specs.Members.{Reads}
 use Rattle.jl_config.specs.Orders.{read_cmp}
 use Rattle.jl_config.specs.Places.{SameNameFault}
 use Rattle.jl_config.specs.ReadRows.{option_name, option_config, name_at, place_cmp, reading_cmp, IsReadingOf, AreReadings, read_between, reads_in}
 use Rattle.jl_config.specs.Resolves.{AreReads, read_of}
 use Rattle.jl_config.proofs.ReadLists.{into_map, from_map, into_flat_map, from_flat_map}
-use Rattle.jl_config.proofs.SameNames.{names_exact, ReadAt, place_read, one_first, not_before_itself}
+use Rattle.jl_config.proofs.SameNames.{names_exact, place_read, one_first, not_before_itself}
 
 -- what an order by two parts says, where the first does not tie
 first_less : (o p : Ordering) → (o ≡ Equal → ⊥) → ordering_then o p ≡ Less → o ≡ Less

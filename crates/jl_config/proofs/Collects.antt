@@ -1,18 +1,18 @@
 -- Lists that grow by what has a property, and the least of what was collected.
-use Rattle.std.proofs.Common.{◌≡◌, ◌≢◌, ◌<◌, ◌≤◌, ◌+◌, ◌⊎◌, ℕ, zero, suc, List, [], ◌∷◌, ◌++◌, length, take, get_or, inl, inr, ⊎_elim, refl, sym, ◌∙◌, ap, subst, Contains, Option, Some, None, Ordering, Less, Equal, Greater, arith}
+use Rattle.std.proofs.Common.{◌≡◌, ◌≢◌, ◌<◌, ◌≤◌, ◌+◌, ◌⊎◌, ℕ, List, [], ◌∷◌, ◌++◌, length, take, get_or, inl, inr, ⊎_elim, refl, sym, ◌∙◌, ap, subst, Contains, Option, Some, None, Ordering, Less, Equal, Greater, arith}
 use Rattle.std.specs.Cmp.{IsTotalOrder}
 use Rattle.std.specs.Option.{option_map, option_cmp}
 use Rattle.std.specs.Ordering.{ordering_then, ordering_reverse}
 use Rattle.std.specs.Cmp.Lexicographic.{options_total, nat_list_cmp_total}
 use Rattle.std.proofs.lemmas.Cmp.{on_total, then_total, nat_cmp_total, lists_total}
 use Rattle.std.proofs.lemmas.List.{take_more, take_all, get_or_default}
-use Rattle.jl_logic.specs.Order.{name_cmp, optional_cmp, IsLeast}
+use Rattle.jl_logic.specs.Order.{name_cmp, optional_cmp}
 use Rattle.jl_logic.proofs.Rising.{contains_head, contains_nothing, apart_from_total}
 use Rattle.jl_config.specs.declared.fault.ResolveFault.{ResolveFault}
 use Rattle.jl_config.specs.Collected.{Adds, Among}
 use Rattle.jl_config.specs.Places.{IsLeastSome}
 use Rattle.jl_config.specs.Refusals.{rank, fields, fault_cmp}
-use Rattle.jl_config.proofs.ReadLists.{contains_left, contains_right, contains_either}
+use Rattle.jl_config.proofs.ReadLists.{contains_left, contains_right}
 use Rattle.jl_config.proofs.ReadOrders.{last_or_before, below_or_last}
 
 module _ {X : Type 0} where

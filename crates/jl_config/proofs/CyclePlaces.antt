@@ -1,27 +1,25 @@
 -- The places that lead back to themselves are those of members on a circle.
-use Rattle.std.proofs.Common.{◌≡◌, ◌≢◌, ◌<◌, ◌≤◌, ◌⊎◌, ◌+◌, ℕ, zero, suc, List, [], ◌∷◌, length, map, get_or, slice_get, inl, inr, ⊎_elim, refl, sym, ◌∙◌, ap, ap₂, subst, Contains, All, Option, Some, None, Bool, true, false, true≢false, cond, filter_map, arith, Less, Equal, Greater, Ordering}
-use Rattle.std.specs.List.{AllByRecursion, cons_option}
+use Rattle.std.proofs.Common.{◌≡◌, ◌≢◌, ◌<◌, ℕ, zero, suc, List, [], ◌∷◌, length, get_or, slice_get, ⊎_elim, refl, sym, ◌∙◌, ap, subst, Contains, All, Option, Some, None, Bool, true, false, cond, arith, Less}
+use Rattle.std.specs.List.{cons_option}
 use Rattle.std.specs.Cmp.Lexicographic.{nat_list_cmp_total}
-use Rattle.std.proofs.lemmas.Bool.{cases_lt}
 use Rattle.std.proofs.lemmas.Cmp.{on_total}
 use Rattle.std.proofs.lemmas.List.{length-map}
 use Rattle.std.proofs.lemmas.Option.{slice_get_within, slice_get-get_or}
 use Rattle.std.proofs.lemmas.List.Elements.{All-contains}
 use Rattle.jl_prim.specs.declared.declaration.Requires.{Requires}
-use Rattle.jl_closure.specs.Reached.{Chain, Follows, IsReached, AreMarksOf}
-use Rattle.jl_closure.proofs.Always.{marks_exist}
+use Rattle.jl_closure.specs.Reached.{Chain}
 use Rattle.jl_logic.specs.Order.{name_cmp, RisesBy, IsLeast}
 use Rattle.jl_logic.proofs.Rising.{contains_head, contains_tail, contains_cases, contains_nothing, each_of_member, apart_from_total}
 use Rattle.jl_config.specs.declared.site.Site.{Site}
 use Rattle.jl_config.specs.declared.fault.ResolveFault.{ResolveFault}
 use Rattle.jl_config.specs.declared.fault.ResolveFault.TheVariants.{NoParents, NotFound, TooMany, Cycle, SameName, SamePackage, OwnPackage, ServicePackage, NoMemory}
-use Rattle.jl_config.specs.Located.{Scene, site_name, located, find_named}
+use Rattle.jl_config.specs.Located.{Scene, site_name}
 use Rattle.jl_config.specs.Members.{IsMember}
 use Rattle.jl_config.specs.Orders.{site_cmp}
 use Rattle.jl_config.specs.Places.{place_named, AreMarks, AreMembers, sites_at, CycleFault}
 use Rattle.jl_config.specs.Refusals.{HasEdge, Leads, IsOnCircle, fault_cmp}
 use Rattle.jl_config.specs.Rounds.{kept_marked, edge_place, edge_row, edge_rows, Rounds, IsFirstRound}
-use Rattle.jl_config.proofs.MemberFinds.{same_item, FoundAt, found_at_within, site_at, place_at, named_so}
+use Rattle.jl_config.proofs.MemberFinds.{same_item, FoundAt, site_at, named_so}
 use Rattle.jl_config.proofs.MemberLists.{into_filter_map, from_filter_map, row_at, from_map}
 use Rattle.jl_config.proofs.MemberChains.{all_of, member_reached}
 use Rattle.jl_config.proofs.FaultOrders.{cycle_cmp}

@@ -1,8 +1,7 @@
 -- What the searches of a resolution found decides its answer.
-use Rattle.std.proofs.Common.{◌≡◌, ◌<◌, ◌≤◌, ◌⊎◌, ◌+◌, ℕ, zero, suc, List, [], ◌∷◌, ◌++◌, length, map, take, get_or, slice_get, inl, inr, ⊎_elim, refl, sym, ◌∙◌, ap, subst, Option, Some, None, filter_map, option_to_list, arith, Err, Ok, Result}
+use Rattle.std.proofs.Common.{◌≡◌, ◌<◌, ◌≤◌, ◌⊎◌, ◌+◌, ℕ, zero, suc, List, [], ◌∷◌, ◌++◌, length, map, take, get_or, slice_get, inl, inr, ⊎_elim, refl, sym, ◌∙◌, ap, subst, Option, Some, None, option_to_list, arith, Err, Ok}
 use Rattle.std.proofs.lemmas.List.{map-append}
 use Rattle.jl_prim.specs.declared.declaration.Observed.{Observed}
-use Rattle.jl_logic.specs.Order.{IsLeast}
 use Rattle.jl_config.specs.declared.fault.ResolveFault.{ResolveFault}
 use Rattle.jl_config.specs.declared.fault.ResolveFault.TheVariants.{TooMany}
 use Rattle.jl_config.specs.declared.site.Site.{Site}
@@ -10,7 +9,7 @@ use Rattle.jl_config.specs.Graphs.{Graph}
 use Rattle.jl_config.specs.Located.{Asked, Scene, scene_of, id_of}
 use Rattle.jl_config.specs.MemberRows.{modules_at}
 use Rattle.jl_config.specs.Places.{AreMembers, IsLeastSome, sites_at}
-use Rattle.jl_config.specs.Refusals.{IsLarge, most, fault_cmp, Applies}
+use Rattle.jl_config.specs.Refusals.{most, fault_cmp}
 use Rattle.jl_config.specs.Resolves.{Resolves, AreReads, AreJustified, IsGraphOf}
 use Rattle.jl_config.specs.Settled.{StartsAt, Settles}
 use Rattle.jl_config.proofs.Always.{IsTooMany}

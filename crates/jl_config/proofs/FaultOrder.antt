@@ -11,7 +11,6 @@ use Rattle.jl_logic.proofs.Rising.{apart_from_total}
 use Rattle.jl_config.specs.declared.configuration.Read.{Read}
 use Rattle.jl_config.specs.declared.fault.ResolveFault.{ResolveFault}
 use Rattle.jl_config.specs.declared.fault.ResolveFault.TheVariants.{NoParents, NotFound, TooMany, Cycle, SameName, SamePackage, OwnPackage, ServicePackage, NoMemory}
-use Rattle.jl_config.specs.declared.site.Site.{Site}
 use Rattle.jl_config.specs.Located.{name_of, site_name}
 use Rattle.jl_config.specs.Orders.{module_cmp, site_cmp, read_cmp}
 use Rattle.jl_config.specs.Refusals.{rank, fields, fields_cmp, fault_cmp}

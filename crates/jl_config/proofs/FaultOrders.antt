@@ -1,6 +1,5 @@
 -- The orders of missing names and of refusals.
 use Rattle.std.proofs.Common.{◌≡◌, ℕ, List, refl, subst, Option, Some, None, Ordering, Less, Equal, Greater}
-use Rattle.std.specs.Ordering.{ordering_then}
 use Rattle.std.specs.Option.{option_cmp}
 use Rattle.std.specs.Cmp.{IsTotalOrder}
 use Rattle.std.specs.Cmp.Lexicographic.{options_total, nat_list_cmp_total}

@@ -13,12 +13,12 @@ use Rattle.jl_config.specs.Members.{Reads}
 use Rattle.jl_config.specs.Places.{place_of_site}
 use Rattle.jl_config.specs.Refusals.{Exports}
 use Rattle.jl_config.specs.ReadRows.{name_at, IsReadingOf, AreReadings}
-use Rattle.jl_config.specs.Collected.{Adds, Among}
+use Rattle.jl_config.specs.Collected.{Among}
 use Rattle.jl_config.specs.Imported.{IsGranted, IsExportedBy, IsExportedAt, exported_cmp, IsImportOf, IsImport, AreImports}
 use Rattle.jl_config.proofs.ReadFinds.{text_same}
 use Rattle.jl_config.proofs.ReadLists.{from_map, into_map}
 use Rattle.jl_config.proofs.ReadOrders.{last_or_before, same_some}
-use Rattle.jl_config.proofs.SameNames.{ReadAt, place_read, reader_name, one_first}
+use Rattle.jl_config.proofs.SameNames.{place_read, reader_name, one_first}
 
 abbrev pub reader_of_reading : Reading → ℕ
 reader_of_reading r = r.reader

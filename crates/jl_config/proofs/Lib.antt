@@ -35,3 +35,4 @@ pub mod PackageFaults
 pub mod NameSearch
 pub mod ServiceFaults
 mod ReadingRows
+mod Rows

@@ -1,5 +1,5 @@
 -- Chains of places and justified lists of modules: what the closure marks is the set.
-use Rattle.std.proofs.Common.{◌≡◌, ◌<◌, ◌+◌, ◌⊎◌, ℕ, zero, suc, List, [], ◌∷◌, ◌++◌, length, map, get_or, slice_get, inl, inr, ⊎_elim, refl, sym, ◌∙◌, ap, subst, Contains, All, Option, Some, None, Bool, true, false, true≢false, cond, ◌&&◌, IsTrue, filter_map, flat_map, arith}
+use Rattle.std.proofs.Common.{◌≡◌, ◌<◌, ◌+◌, ◌⊎◌, ℕ, zero, suc, List, [], ◌∷◌, length, slice_get, inl, inr, ⊎_elim, refl, sym, ◌∙◌, ap, subst, Contains, All, Option, Some, None, Bool, true, false, true≢false, cond, ◌&&◌, filter_map, flat_map, arith}
 use Rattle.std.proofs.lemmas.List.{length-map}
 use Rattle.std.proofs.lemmas.Option.{slice_get_within}
 use Rattle.std.proofs.lemmas.List.Elements.{All-from_recursion}
@@ -10,7 +10,7 @@ use Rattle.jl_logic.specs.Order.{is_text}
 use Rattle.jl_logic.proofs.Rising.{contains_head, contains_tail, contains_cases, contains_nothing, each_from_members}
 use Rattle.jl_config.specs.declared.site.Site.{Site}
 use Rattle.jl_config.specs.declared.provisions.Provision.{Provision}
-use Rattle.jl_config.specs.Located.{Scene, site_name, located, is_here}
+use Rattle.jl_config.specs.Located.{Scene, site_name, is_here}
 use Rattle.jl_config.specs.Members.{is_followed, Needs, Uses, IsProvidedBy, IsFound, Enumerated, IsAbove, IsUsed, IsCaused, IsJustified, IsBound, IsMemberBy, IsMember}
 use Rattle.jl_config.specs.MemberRows.{found_place, needed_place, needed_places, is_place, provided_by, provisions_of, provisions_from, offers, for_service, providers, member_row, member_rows, above_from, member_starts, cleared}
 use Rattle.jl_config.specs.Places.{place_named, AreMarks}

@@ -1,10 +1,10 @@
 -- Modules in sight, found by their names and by places.
-use Rattle.std.proofs.Common.{◌≡◌, ◌<◌, ◌+◌, ℕ, zero, suc, List, [], ◌∷◌, length, slice_get, refl, sym, ◌∙◌, ap, subst, Contains, Option, Some, None, option_map, Bool, true, false, cond, add-one, arith, IsTrue}
+use Rattle.std.proofs.Common.{◌≡◌, ◌<◌, ◌+◌, ℕ, suc, List, [], ◌∷◌, length, slice_get, refl, sym, ◌∙◌, ap, subst, Option, Some, None, option_map, Bool, true, false, cond, add-one}
 use Rattle.std.specs.Option.{option_map_or}
 use Rattle.std.proofs.lemmas.Option.{slice_get_within}
 use Rattle.jl_logic.specs.Order.{is_text}
 use Rattle.jl_config.specs.declared.site.Site.{Site}
-use Rattle.jl_config.specs.Located.{Scene, site_name, find_named, located, is_here}
+use Rattle.jl_config.specs.Located.{Scene, site_name, find_named, is_here}
 use Rattle.jl_config.specs.Members.{IsFound}
 use Rattle.jl_config.specs.MemberRows.{here_at, kept_here, found_place}
 use Rattle.jl_config.specs.Places.{place_named}

@@ -1,16 +1,16 @@
 -- Names with places, in name order: a search, and one more of them.
-use Rattle.std.proofs.Common.{◌≡◌, ◌<◌, ◌≤◌, ◌+◌, ℕ, zero, suc, List, [], ◌∷◌, ◌++◌, length, get_or, take, drop, ⊎_elim, refl, sym, ◌∙◌, ap, ap₂, subst, Option, Some, None, Bool, true, false, true≢false, cond, nat_eq, Less, Equal, Greater, Result, Ok, Err, insert, arith, add-one}
+use Rattle.std.proofs.Common.{◌≡◌, ◌<◌, ◌≤◌, ℕ, zero, suc, List, [], ◌∷◌, ◌++◌, length, get_or, take, drop, refl, sym, ◌∙◌, ap, subst, Option, Some, None, Bool, true, false, cond, Less, Equal, Greater, Result, Ok, Err, insert, arith, add-one}
 use Rattle.std.specs.List.{AllByRecursion, AllWithin}
 use Rattle.std.specs.Ordering.{ordering_reverse, is_eq, is_lt}
 use Rattle.std.specs.Cmp.{IsTotalOrder}
-use Rattle.std.specs.Cmp.Lexicographic.{pointwise, bytes_decides, texts_ties, nat_list_cmp_total}
+use Rattle.std.specs.Cmp.Lexicographic.{bytes_decides, texts_ties, nat_list_cmp_total}
 use Rattle.std.specs.List.Sorted.{IsSortedBy, IsBinarySearchResult, IsPartitionPoint, IsSearchInRange}
 use Rattle.std.proofs.lemmas.Cmp.{on_total}
 use Rattle.std.proofs.lemmas.List.{take-append-drop}
-use Rattle.std.proofs.lemmas.List.Elements.{All-from_recursion, recursion_from_All}
+use Rattle.std.proofs.lemmas.List.Elements.{recursion_from_All}
 use Rattle.std.proofs.lemmas.List.Sorted.{searchable_from_sorted}
 use Rattle.jl_logic.specs.Order.{name_cmp, is_text, RisesBy}
-use Rattle.jl_logic.proofs.Rising.{rises_between, apart_from_total}
+use Rattle.jl_logic.proofs.Rising.{rises_between}
 use Rattle.jl_config.specs.Placed.{placed_cmp, place_in, IsSought}
 use Rattle.jl_config.specs.Tables.{or_at}
 use Rattle.jl_config.specs.declared.placed.Placed.{Placed}

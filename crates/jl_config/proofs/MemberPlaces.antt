@@ -1,5 +1,5 @@
 -- The marked places in name order are those of the set.
-use Rattle.std.proofs.Common.{◌≡◌, ◌<◌, ◌+◌, ℕ, zero, suc, List, [], ◌∷◌, length, map, slice_get, ⊎_elim, refl, sym, ◌∙◌, ap, ap₂, subst, Contains, All, Option, Some, None, Bool, true, false, cond, ◌&&◌, filter_map, arith, Less}
+use Rattle.std.proofs.Common.{◌≡◌, ◌<◌, ◌+◌, ℕ, zero, suc, List, [], ◌∷◌, length, map, slice_get, ⊎_elim, refl, sym, ◌∙◌, ap, ap₂, subst, Contains, Option, Some, Bool, true, false, cond, ◌&&◌, arith, Less}
 use Rattle.std.specs.List.{AllByRecursion, cons_option}
 use Rattle.std.proofs.lemmas.Option.{slice_get_within}
 use Rattle.jl_logic.specs.Order.{is_text, name_cmp, RisesBy}
@@ -7,7 +7,6 @@ use Rattle.jl_logic.proofs.Rising.{contains_head, contains_tail, contains_cases,
 use Rattle.jl_config.specs.declared.site.Site.{Site}
 use Rattle.jl_config.specs.declared.placed.Placed.{Placed}
 use Rattle.jl_config.specs.Located.{Scene, site_name}
-use Rattle.jl_config.specs.Members.{IsMember}
 use Rattle.jl_config.specs.Orders.{site_cmp}
 use Rattle.jl_config.specs.Placed.{placed_cmp, place_in, marked_place}
 use Rattle.jl_config.specs.Places.{place_named, AreMarks, AreMembers, sites_at}

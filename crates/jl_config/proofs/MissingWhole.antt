@@ -1,7 +1,6 @@
 -- What is missing, over the places of the set, is what the condition says.
-use Rattle.std.proofs.Common.{◌≡◌, ◌≢◌, ◌<◌, ℕ, List, [], ◌∷◌, ◌++◌, length, slice_get, ⊎_elim, refl, sym, ◌∙◌, ap, subst, Contains, All, Option, Some, None, option_map, Bool, true, false, cond, not, ◌||◌, IsTrue, filter_map, flat_map, Less, get_or, arith}
+use Rattle.std.proofs.Common.{◌≡◌, ◌≢◌, ℕ, List, [], slice_get, ⊎_elim, refl, sym, ◌∙◌, ap, subst, Contains, Option, Some, None, Bool, true, false, cond, not, ◌||◌, IsTrue, filter_map, flat_map, Less}
 use Rattle.std.specs.Option.{is_some, option_map_or}
-use Rattle.std.proofs.lemmas.Option.{slice_get-get_or}
 use Rattle.jl_prim.specs.declared.declaration.Requires.{Requires}
 use Rattle.jl_logic.specs.Order.{IsLeast}
 use Rattle.jl_logic.proofs.Rising.{contains_nothing}
@@ -11,10 +10,10 @@ use Rattle.jl_config.specs.declared.fault.ResolveFault.TheVariants.{NoParents, N
 use Rattle.jl_config.specs.Located.{Scene, site_name, located}
 use Rattle.jl_config.specs.Members.{is_followed}
 use Rattle.jl_config.specs.MissingNames.{least_from, lack_cmp, root_missing, entry_missing, missing_of, missing_at, all_missing}
-use Rattle.jl_config.specs.Places.{place_named, AreMembers, MissingFault, IsLeastSome}
+use Rattle.jl_config.specs.Places.{place_named, AreMembers, MissingFault}
 use Rattle.jl_config.specs.Refusals.{IsMissing, fault_cmp}
 use Rattle.jl_config.proofs.MemberFinds.{unplaced, unfound}
-use Rattle.jl_config.proofs.MemberLists.{into_filter_map, from_filter_map, contains_left, contains_right, contains_either, contains_at}
+use Rattle.jl_config.proofs.MemberLists.{into_filter_map, from_filter_map, contains_left, contains_right, contains_either}
 use Rattle.jl_config.proofs.MemberChains.{into_flat, from_flat}
 use Rattle.jl_config.proofs.MissingLeasts.{least_of_list, least_of_none}
 use Rattle.jl_config.proofs.FaultOrders.{not_found_cmp}

@@ -1,5 +1,5 @@
 -- Searches in lists that rise by a name and something more.
-use Rattle.std.proofs.Common.{◌≡◌, ◌↔◌, ◌<◌, ◌≤◌, ◌+◌, ℕ, List, [], ◌∷◌, length, get_or, ⊎_elim, refl, sym, ◌∙◌, ap, subst, Contains, IsTrue, Result, Ok, Err, Ordering, Less, Equal, Greater, false, arith}
+use Rattle.std.proofs.Common.{◌≡◌, ◌↔◌, ◌<◌, ◌+◌, ℕ, List, [], ◌∷◌, length, get_or, ⊎_elim, refl, sym, ◌∙◌, subst, Contains, IsTrue, Result, Ok, Err, Ordering, Less, Equal, Greater, false, arith}
 use Rattle.std.specs.Result.{is_ok}
 use Rattle.std.specs.Ordering.{ordering_then, is_lt}
 use Rattle.std.specs.List.Sorted.{IsSortedBy, IsBinarySearchResult, IsSearchInRange}

@@ -1,7 +1,7 @@
 -- A table of first places takes one more place.
-use Rattle.std.proofs.Common.{◌≡◌, ℕ, List, Option, Some, None, Bool, true, false, cond, not, refl, sym, ◌∙◌, ap, nat_eq, Bor}
+use Rattle.std.proofs.Common.{◌≡◌, ℕ, List, Option, Some, None, Bool, true, false, cond, not, refl, sym, ◌∙◌, ap, Bor}
 use Rattle.std.specs.Option.{is_some, option_copied}
-use Rattle.std.specs.Cmp.Lexicographic.{pointwise, bytes_decides}
+use Rattle.std.specs.Cmp.Lexicographic.{bytes_decides}
 use Rattle.jl_logic.specs.Order.{is_text}
 use Rattle.jl_config.specs.Tables.{or_at}
 

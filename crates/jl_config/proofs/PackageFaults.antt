@@ -1,14 +1,13 @@
 -- Packages that a module would have twice, from what it gets.
-use Rattle.std.proofs.Common.{◌≡◌, ◌≢◌, ◌<◌, ◌≤◌, ◌+◌, ◌-◌, ℕ, List, [], ◌∷◌, length, get_or, slice_get, ⊎_elim, refl, sym, ◌∙◌, ap, subst, Contains, Option, Some, None, Ordering, Less, Equal, Greater, arith}
+use Rattle.std.proofs.Common.{◌≡◌, ◌≢◌, ◌<◌, ◌+◌, ◌-◌, ℕ, List, [], length, get_or, slice_get, ⊎_elim, refl, sym, ◌∙◌, ap, subst, Contains, Option, Some, Ordering, Less, Equal, Greater, arith}
 use Rattle.std.specs.Cmp.{IsTotalOrder}
 use Rattle.std.specs.Option.{option_map}
 use Rattle.std.specs.Ordering.{ordering_then, ordering_reverse}
 use Rattle.std.specs.Cmp.Lexicographic.{nat_list_cmp_total}
 use Rattle.std.proofs.lemmas.Bool.{cases_lt}
 use Rattle.std.proofs.lemmas.Cmp.{on_total, then_total, tied_itself}
-use Rattle.std.proofs.lemmas.List.{get_or_default}
 use Rattle.std.proofs.lemmas.Option.{slice_get_within, slice_get-get_or, get_or_from_slice_get}
-use Rattle.jl_logic.specs.Order.{name_cmp, RisesBy}
+use Rattle.jl_logic.specs.Order.{name_cmp}
 use Rattle.jl_logic.proofs.Rising.{contains_nothing, apart_from_total}
 use Rattle.jl_config.specs.declared.fault.ResolveFault.{ResolveFault}
 use Rattle.jl_config.specs.declared.fault.ResolveFault.TheVariants.{NoParents, NotFound, TooMany, Cycle, SameName, SamePackage, OwnPackage, ServicePackage, NoMemory}
@@ -19,7 +18,7 @@ use Rattle.jl_config.specs.declared.packages.OwnedPackage.{OwnedPackage}
 use Rattle.jl_config.specs.declared.site.Site.{Site}
 use Rattle.jl_config.specs.Located.{Scene, site_name}
 use Rattle.jl_config.specs.Places.{IsLeastSome, SamePackageFault, OwnPackageFault}
-use Rattle.jl_config.specs.Refusals.{Gets, Holds, Exports, IsSamePackage, IsOwnPackage, fault_cmp}
+use Rattle.jl_config.specs.Refusals.{Holds, Exports, IsSamePackage, IsOwnPackage, fault_cmp}
 use Rattle.jl_config.specs.ReadRows.{option_name, name_at}
 use Rattle.jl_config.specs.Collected.{Adds, Among}
 use Rattle.jl_config.specs.Imported.{exported_cmp, IsImportOf, AreImports, IsImport, IsPackageSharedAt, IsPackageShared, IsOwned, IsOwnedIn, same_package_fault, own_package_fault}

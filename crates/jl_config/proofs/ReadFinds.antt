@@ -1,7 +1,7 @@
 -- Finding modules in sight by their names, and by their configurations and names.
-use Rattle.std.proofs.Common.{◌≡◌, ◌<◌, ◌+◌, ℕ, zero, suc, List, [], ◌∷◌, length, slice_get, refl, sym, ◌∙◌, ap, subst, Option, Some, None, Bool, true, false, cond, nat_eq, eqb, ◌&&◌, add-one}
+use Rattle.std.proofs.Common.{◌≡◌, ◌+◌, ℕ, suc, List, [], ◌∷◌, slice_get, refl, sym, ◌∙◌, ap, subst, Option, Some, None, Bool, true, false, cond, ◌&&◌, add-one}
 use Rattle.std.specs.Option.{option_map}
-use Rattle.std.specs.Cmp.Lexicographic.{pointwise, bytes_decides}
+use Rattle.std.specs.Cmp.Lexicographic.{bytes_decides}
 use Rattle.std.proofs.lemmas.Bool.{eqb-true, eq-eqb, and_parts, and_from}
 use Rattle.jl_prim.specs.declared.numbers.ConfigId.{ConfigId}
 use Rattle.jl_logic.specs.Order.{is_text}

@@ -1,21 +1,20 @@
 -- What a closure over the reads' rows marks is what a module reads.
-use Rattle.std.proofs.Common.{◌≡◌, ◌<◌, ◌⊎◌, ℕ, zero, suc, List, [], ◌∷◌, ◌++◌, length, get_or, slice_get, map, inl, inr, ⊎_elim, refl, sym, ◌∙◌, ap, subst, Contains, All, Option, Some, None, Bool, true, false, cond, not, ◌||◌, IsTrue, filter_map}
+use Rattle.std.proofs.Common.{◌≡◌, ◌<◌, ℕ, zero, suc, List, [], ◌∷◌, length, get_or, slice_get, map, inl, inr, ⊎_elim, refl, sym, ◌∙◌, ap, subst, Contains, All, Option, Some, None, Bool, true, false, cond, not, ◌||◌, IsTrue, filter_map}
 use Rattle.std.proofs.lemmas.List.{length-map}
 use Rattle.std.proofs.lemmas.Option.{slice_get_within, get_or_from_slice_get, slice_get-get_or}
 use Rattle.std.proofs.lemmas.List.Elements.{All-map, All-from_recursion, All-push}
-use Rattle.jl_prim.specs.declared.numbers.ConfigId.{ConfigId}
 use Rattle.jl_prim.specs.declared.declaration.Requires.{Requires}
 use Rattle.jl_closure.specs.Reached.{Chain, Follows, IsReached, AreMarksOf}
 use Rattle.jl_closure.proofs.Always.{marks_exist}
 use Rattle.jl_logic.proofs.Rising.{contains_head, contains_tail, contains_cases, contains_nothing, each_from_members}
 use Rattle.jl_config.specs.declared.configuration.Read.{Read}
 use Rattle.jl_config.specs.declared.site.Site.{Site}
-use Rattle.jl_config.specs.Located.{Scene, site_name, located, is_here, own_meaning, find_read, read_site}
-use Rattle.jl_config.specs.Members.{IsFound, Enumerated, IsMemberBy, IsMember, MeansHere, MeansBy, Means, IsRequired, IsPassedOn, ReadsBy, Reads, is_passed_on}
+use Rattle.jl_config.specs.Located.{Scene, site_name, is_here, find_read, read_site}
+use Rattle.jl_config.specs.Members.{IsFound, Enumerated, IsMemberBy, IsMember, MeansHere, MeansBy, Means, IsPassedOn, ReadsBy, Reads, is_passed_on}
 use Rattle.jl_config.specs.Places.{place_named, place_of_site, read_place, own_place, AreMarks, AreReadBy}
 use Rattle.jl_config.specs.ReadRows.{is_open_site, is_open, open_place, meant_place, required_places, passed_place, passed_places, read_rows, read_starts}
 use Rattle.jl_config.proofs.ReadLists.{into_map, from_map, into_filter_map, from_filter_map, row_at, contains_left, contains_right, contains_either}
-use Rattle.jl_config.proofs.ReadFinds.{PlacedBy, SitedBy, place_shows, place_exists, site_shows, site_exists, named_first}
+use Rattle.jl_config.proofs.ReadFinds.{place_shows, place_exists, site_shows, site_exists, named_first}
 
 -- a place, the module there, and that it is the first of its configuration and name
 pub record First (w : Scene) (p : ℕ) (b : Site) : Type 0 where

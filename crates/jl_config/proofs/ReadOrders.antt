@@ -1,5 +1,5 @@
 -- The order of places by name, and what the readings hold so far.
-use Rattle.std.proofs.Common.{inl, inr, ◌⊎◌, ◌≡◌, ◌<◌, ◌≤◌, ◌+◌, ℕ, zero, suc, List, [], ◌∷◌, ◌++◌, length, map, take, get_or, slice_get, ⊎_elim, refl, sym, ◌∙◌, ap, ap₂, subst, Contains, ◌&&◌, eqb, All, Option, Some, None, Bool, true, false, cond, filter_map, Ordering, Less, arith}
+use Rattle.std.proofs.Common.{inl, inr, ◌⊎◌, ◌≡◌, ◌<◌, ◌≤◌, ◌+◌, ℕ, zero, suc, List, [], ◌∷◌, ◌++◌, length, map, take, get_or, slice_get, ⊎_elim, refl, sym, ◌∙◌, ap, ap₂, subst, Contains, ◌&&◌, eqb, Option, Some, None, Bool, true, false, cond, filter_map, Ordering, Less, arith}
 use Rattle.std.specs.List.{AllByRecursion, Any, cons_option}
 use Rattle.std.specs.List.Sorted.{IsStrictlySortedBy}
 use Rattle.std.proofs.lemmas.Option.{slice_get_within, get_or_from_slice_get, slice_get-get_or}
@@ -8,15 +8,14 @@ use Rattle.std.proofs.lemmas.Bool.{cases_lt, and_parts, eqb-true}
 use Rattle.std.proofs.lemmas.List.Elements.{All-contains}
 use Rattle.jl_logic.specs.Order.{is_text, RisesBy}
 use Rattle.jl_logic.proofs.Rising.{contains_head, contains_tail, contains_cases, contains_nothing, each_from_members, each_of_member}
-use Rattle.jl_closure.specs.Reached.{IsReached, AreMarksOf}
+use Rattle.jl_closure.specs.Reached.{AreMarksOf}
 use Rattle.jl_config.specs.declared.site.Site.{Site}
 use Rattle.jl_config.specs.declared.readings.Reading.{Reading}
 use Rattle.jl_config.specs.declared.readings.Placed.{Placed}
 use Rattle.jl_config.specs.Located.{Scene, site_name}
-use Rattle.jl_config.specs.Members.{IsMember}
 use Rattle.jl_config.specs.Orders.{site_cmp}
-use Rattle.jl_config.specs.Places.{sites_at, place_named, AreMarks, AreMembers, AreReadBy}
-use Rattle.jl_config.specs.ReadRows.{option_name, name_at, place_cmp, placed_cmp, placed, AreByName, marked_place, read_rows, read_starts, IsRead, IsReadingOf, reading_cmp, AreReadings}
+use Rattle.jl_config.specs.Places.{sites_at, AreMarks, AreMembers, AreReadBy}
+use Rattle.jl_config.specs.ReadRows.{option_name, place_cmp, placed_cmp, placed, AreByName, marked_place, read_rows, read_starts, IsRead, IsReadingOf, reading_cmp, AreReadings}
 use Rattle.jl_config.proofs.ReadLists.{contains_at, contains_left, contains_right, contains_either, into_filter_map, from_filter_map, from_map, into_map}
 use Rattle.jl_config.proofs.ReadFinds.{text_same}
 use Rattle.jl_config.proofs.ReadMarks.{First, placed_first, read_by_marks, rows_long}

@@ -1,6 +1,5 @@
 -- Modules of one name stand side by side in a reading.
-use Rattle.std.proofs.Common.{◌≡◌, ◌≢◌, ◌<◌, ◌≤◌, ◌+◌, ◌-◌, ◌⊎◌, ℕ, zero, suc, List, [], ◌∷◌, length, get_or, slice_get, inl, inr, ⊎_elim, refl, sym, ◌∙◌, ap, subst, Contains, Option, Some, None, Ordering, Less, Equal, Greater, arith}
-use Rattle.std.specs.Cmp.{IsTotalOrder}
+use Rattle.std.proofs.Common.{◌≡◌, ◌≢◌, ◌<◌, ◌+◌, ◌-◌, ℕ, zero, suc, List, [], ◌∷◌, length, get_or, slice_get, ⊎_elim, refl, sym, ◌∙◌, ap, subst, Contains, Option, Some, Ordering, Less, Equal, Greater, arith}
 use Rattle.std.specs.Ordering.{ordering_then, ordering_reverse, nat_cmp, is_eq}
 use Rattle.std.specs.Cmp.Lexicographic.{bytes_decides, texts_ties, nat_list_cmp_total}
 use Rattle.std.proofs.lemmas.Bool.{cases_lt}
@@ -20,7 +19,7 @@ use Rattle.jl_config.specs.Located.{Scene, site_name}
 use Rattle.jl_config.specs.Members.{Reads}
 use Rattle.jl_config.specs.Places.{place_of_site, IsLeastSome, SameNameFault}
 use Rattle.jl_config.specs.ReadRows.{option_name, name_at, place_cmp, IsReadingOf, AreReadings}
-use Rattle.jl_config.specs.Collected.{Adds, Among, IsReading, read_name, IsSharedAt, IsShared, same_name_fault}
+use Rattle.jl_config.specs.Collected.{Adds, Among, IsReading, read_name, IsShared, same_name_fault}
 use Rattle.jl_config.specs.Refusals.{IsSameName, fault_cmp}
 use Rattle.jl_config.proofs.ReadLists.{contains_at}
 use Rattle.jl_config.proofs.ReadOrders.{site_exists}

@@ -1,14 +1,10 @@
 -- Services whose packages a module does not see.
-use Rattle.std.proofs.Common.{◌≡◌, ◌≢◌, ◌⊎◌, ◌↔◌, ◌<◌, ◌≤◌, ◌+◌, ℕ, List, [], ◌∷◌, length, get_or, slice_get, inl, inr, ⊎_elim, refl, sym, ◌∙◌, ap, subst, Contains, Option, Some, None, Bool, true, false, IsTrue, Result, Ok, Err, Ordering, Less, Equal, Greater, arith}
+use Rattle.std.proofs.Common.{◌≡◌, ◌≢◌, ◌⊎◌, ◌↔◌, ℕ, List, [], length, slice_get, inl, inr, ⊎_elim, refl, sym, ◌∙◌, ap, subst, Contains, Option, Some, false, IsTrue, Result, Ordering, Less}
 use Rattle.std.specs.Option.{option_map}
 use Rattle.std.specs.Result.{is_ok}
-use Rattle.std.specs.Ordering.{ordering_then, ordering_reverse, is_lt}
-use Rattle.std.specs.List.Sorted.{IsSortedBy, IsBinarySearchResult, IsSearchInRange}
-use Rattle.std.specs.Cmp.Lexicographic.{nat_list_cmp_total}
-use Rattle.std.proofs.lemmas.Bool.{cases_lt, eqb-true, eqb-false, cases_Bool}
-use Rattle.std.proofs.lemmas.List.{get_or_default}
-use Rattle.std.proofs.lemmas.Cmp.{tied_itself}
-use Rattle.std.proofs.lemmas.List.Sorted.{searchable_from_sorted}
+use Rattle.std.specs.Ordering.{ordering_then}
+use Rattle.std.specs.List.Sorted.{IsBinarySearchResult, IsSearchInRange}
+use Rattle.std.proofs.lemmas.Bool.{eqb-false, cases_Bool}
 use Rattle.jl_logic.specs.Order.{name_cmp, is_text, RisesBy}
 use Rattle.jl_logic.proofs.Rising.{contains_nothing}
 use Rattle.jl_prim.specs.declared.numbers.ConfigId.{ConfigId}
@@ -22,13 +18,12 @@ use Rattle.jl_config.specs.declared.site.Site.{Site}
 use Rattle.jl_config.specs.Located.{Scene, site_name, is_numbered}
 use Rattle.jl_config.specs.Members.{Reads, Uses, IsProvidedBy}
 use Rattle.jl_config.specs.Places.{IsLeastSome, SameNameFault, ServiceFault}
-use Rattle.jl_config.specs.Refusals.{Exports, Gets, Holds, Sees, IsServicePackage, fault_cmp}
+use Rattle.jl_config.specs.Refusals.{Exports, Sees, IsServicePackage, fault_cmp}
 use Rattle.jl_config.specs.Collected.{Adds, Among, AreSorted}
 use Rattle.jl_config.specs.Imported.{exported_cmp, IsImportOf, IsImport, AreImports, IsImported, IsOwnExport, AreOwn, IsSeen, IsUnseen, IsUnseenProvided, IsUnseenIn, service_fault}
 use Rattle.jl_config.proofs.ReadFinds.{text_same, text_differs, same_number}
 use Rattle.jl_config.proofs.NameSearch.{key_searched}
 use Rattle.jl_config.proofs.ReadOrders.{same_some}
-use Rattle.jl_config.proofs.SameNames.{names_exact, rising_at}
 use Rattle.jl_config.proofs.Collects.{then_equal, least_fault, fault_not_less}
 
 -- ---- a search by package

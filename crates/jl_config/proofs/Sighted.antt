@@ -1,13 +1,12 @@
 -- First places in lists of modules, and what ancestors have.
-use Rattle.std.proofs.Common.{◌≡◌, ◌<◌, ◌+◌, ℕ, zero, suc, List, [], ◌∷◌, ◌++◌, length, take, drop, get_or, slice_get, refl, sym, ◌∙◌, ap, subst, Option, Some, None, Bool, true, false, cond, ◌&&◌, option_map, flat_map, append_assoc, arith, add-one, nat_eq}
+use Rattle.std.proofs.Common.{◌≡◌, ◌<◌, ◌+◌, ℕ, zero, suc, List, [], ◌∷◌, ◌++◌, length, take, get_or, slice_get, refl, sym, ◌∙◌, ap, Option, Some, None, Bool, true, false, cond, ◌&&◌, option_map, append_assoc, arith, add-one}
 use Rattle.std.proofs.lemmas.Grind.{common_steps}
-use Rattle.std.proofs.lemmas.List.{append-nil, take_more, take_all}
-use Rattle.std.specs.Cmp.Lexicographic.{pointwise}
+use Rattle.std.proofs.lemmas.List.{append-nil, take_more}
 use Rattle.jl_prim.specs.declared.numbers.ConfigId.{ConfigId}
 use Rattle.jl_config.specs.declared.site.Site.{Site}
 use Rattle.jl_config.specs.declared.configuration.Read.{Read}
 use Rattle.jl_config.specs.Graphs.{Graph}
-use Rattle.jl_config.specs.Located.{site_name, is_numbered, find_read, lineage, graph_of, empty_graph, sites_of}
+use Rattle.jl_config.specs.Located.{site_name, is_numbered, lineage, graph_of, empty_graph, sites_of}
 use Rattle.jl_config.specs.Lineages.{all_sites, all_reads, reads_with}
 use Rattle.jl_config.specs.Places.{place_named, place_of_site}
 use Rattle.jl_config.specs.Tables.{first_where, or_at}

@@ -16,7 +16,7 @@ use Rattle.jl_config.specs.declared.services.UnseenService.{UnseenService}
 use Rattle.jl_config.specs.declared.site.Site.{Site}
 use Rattle.jl_config.specs.Located.{Scene, site_name}
 use Rattle.jl_config.specs.Members.{IsMember, Reads, Uses, IsProvidedBy}
-use Rattle.jl_config.specs.Refusals.{ReachesBy, Exports, Holds, Sees}
+use Rattle.jl_config.specs.Refusals.{ReachesBy, Exports, Holds}
 use Rattle.jl_config.specs.ReadRows.{name_at}
 
 -- ---- what is exported

@@ -1,5 +1,5 @@
 -- Which modules a resolution has, and which of them reads which (JLS 7.7.1, `Configuration`).
-use Rattle.std.specs.Prelude.{◌≡◌, ℕ, zero, suc, List, [], ◌∷◌, Bool, true, false, Option, Some, not, ◌&&◌, ◌||◌, codes, IsTrue, Contains, ◌⊎◌, ⊤}
+use Rattle.std.specs.Prelude.{◌≡◌, ℕ, zero, suc, List, [], ◌∷◌, Bool, true, false, Some, not, ◌&&◌, ◌||◌, codes, IsTrue, Contains, ◌⊎◌, ⊤}
 use Rattle.jl_prim.specs.declared.declaration.Requires.{Requires}
 use Rattle.jl_prim.specs.declared.declaration.Provides.{Provides}
 use Rattle.jl_logic.specs.Order.{is_text}

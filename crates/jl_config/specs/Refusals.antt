@@ -1,5 +1,5 @@
 -- The conditions under which a resolution is refused, in the order in which they are decided (`Configuration`, `Configuration.resolve`).
-use Rattle.std.specs.Prelude.{◌≡◌, ◌≢◌, ℕ, zero, suc, ◌≤◌, ◌<◌, List, [], ◌∷◌, length, Option, None, Some, IsTrue, Contains, All, ◌⊎◌, ⊤}
+use Rattle.std.specs.Prelude.{◌≡◌, ◌≢◌, ℕ, zero, suc, ◌≤◌, ◌<◌, List, [], ◌∷◌, length, Option, None, Some, Contains, All, ◌⊎◌, ⊤}
 use Rattle.jl_prim.specs.declared.declaration.Requires.{Requires}
 use Rattle.jl_prim.specs.declared.declaration.Grant.{Grant}
 use Rattle.jl_logic.specs.Order.{optional_cmp, RisesBy}
@@ -10,7 +10,7 @@ use Rattle.std.specs.Cmp.Lexicographic.{slice_cmp}
 use Rattle.jl_config.specs.declared.fault.ResolveFault.{ResolveFault}
 use Rattle.jl_config.specs.declared.fault.ResolveFault.TheVariants.{NoParents, NotFound, TooMany, Cycle, SameName, SamePackage, OwnPackage, ServicePackage, NoMemory}
 use Rattle.jl_config.specs.declared.site.Site.{Site}
-use Rattle.jl_config.specs.Located.{Asked, Scene, scene_of, site_name, located, is_here}
+use Rattle.jl_config.specs.Located.{Asked, Scene, scene_of, site_name, located}
 use Rattle.jl_config.specs.Members.{Needs, Uses, IsProvidedBy, IsMember, Reads}
 use Rattle.jl_config.specs.Orders.{site_cmp}
 

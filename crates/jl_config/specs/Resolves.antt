@@ -1,5 +1,5 @@
 -- What a resolution answers: exactly these modules and exactly these reads, or exactly this refusal (`Configuration`).
-use Rattle.std.specs.Prelude.{◌≡◌, ◌≢◌, ℕ, List, Option, Bool, Result, Ok, Err, Contains, ⊤}
+use Rattle.std.specs.Prelude.{◌≡◌, ℕ, List, Bool, Result, Ok, Err, Contains, ⊤}
 use Rattle.jl_prim.specs.declared.numbers.ConfigId.{ConfigId}
 use Rattle.jl_prim.specs.declared.declaration.Observed.{Observed}
 use Rattle.jl_logic.specs.Order.{RisesBy, IsLeast}

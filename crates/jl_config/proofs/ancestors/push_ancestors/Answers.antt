@@ -1,5 +1,4 @@
-use Rattle.std.proofs.Common.{◌≡◌, ◌≤◌, ◌∙◌, sym, ap, ℕ, arith, length}
-use Rattle.jl_config.specs.Located.{lineage}
+use Rattle.std.proofs.Common.{sym, ap, arith}
 use Rattle.jl_config.specs.Lineages.{all_sites, all_reads}
 use Rattle.jl_config.proofs.Sighted.{lineage_none, lineage_empty, lineage_ends, sites_step, reads_step, nothing_left}
 use Rattle.jl_config.proofs.ancestors.push_ancestors.Goals as goal

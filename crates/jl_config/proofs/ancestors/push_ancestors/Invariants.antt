@@ -1,4 +1,4 @@
-use Rattle.std.proofs.Common.{◌≡◌, ◌++◌, ◌+◌, ◌≤◌, length}
+use Rattle.std.proofs.Common.{◌≡◌, ◌++◌, ◌+◌, length}
 use Rattle.jl_config.specs.Located.{lineage}
 use Rattle.jl_config.specs.Lineages.{all_sites, all_reads}
 use Rattle.jl_config.proofs.ancestors.push_ancestors.Given as goal

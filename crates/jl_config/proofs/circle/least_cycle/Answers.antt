@@ -1,9 +1,8 @@
-use Rattle.std.proofs.Common.{◌≡◌, ◌∙◌, ◌<◌, ap, sym, subst, None, Some, All, Option, length, slice_get, List, ℕ, Bool, arith}
-use Rattle.std.proofs.lemmas.List.Elements.{All-contains}
+use Rattle.std.proofs.Common.{◌≡◌, ◌∙◌, ◌<◌, ap, sym, subst, None, Some, All, Option, length, slice_get, List, ℕ}
 use Rattle.jl_logic.specs.Order.{IsLeast}
 use Rattle.jl_config.specs.declared.site.Site.{Site}
 use Rattle.jl_config.specs.declared.fault.ResolveFault.{ResolveFault}
-use Rattle.jl_config.specs.Places.{AreMarks, CycleFault}
+use Rattle.jl_config.specs.Places.{CycleFault}
 use Rattle.jl_config.specs.Refusals.{fault_cmp}
 use Rattle.jl_config.specs.Rounds.{edge_rows, IsFirstRound}
 use Rattle.jl_config.proofs.CyclePlaces.{edges_within, edges_long, no_cycle, cycle_right, first_within}

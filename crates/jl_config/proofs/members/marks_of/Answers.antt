@@ -1,4 +1,4 @@
-use Rattle.std.proofs.Common.{◌≡◌, ◌∙◌, ◌<◌, ap, subst, sym, length, List, ℕ, Bool, All}
+use Rattle.std.proofs.Common.{◌≡◌, ◌∙◌, ◌<◌, ap, subst, sym, length, List, ℕ, All}
 use Rattle.std.proofs.lemmas.Result.{IfOk-weaker}
 use Rattle.jl_closure.specs.Reached.{AreMarksOf}
 use Rattle.jl_config.specs.MemberRows.{cleared, member_rows, member_starts}

@@ -1,4 +1,4 @@
-use Rattle.std.proofs.Common.{◌≡◌, ◌∙◌, ap, sym, subst, None, Some, option_map, List, ℕ}
+use Rattle.std.proofs.Common.{◌∙◌, ap, sym, None, option_map, List, ℕ}
 use Rattle.jl_config.specs.MissingNames.{lack_of, least_from, all_missing}
 use Rattle.jl_config.proofs.MissingWhole.{least_missing_right, none_missing}
 use Rattle.jl_config.proofs.missing.least_not_found.Goals as goal

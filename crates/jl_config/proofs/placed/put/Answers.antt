@@ -1,8 +1,5 @@
-use Rattle.std.proofs.Common.{◌≡◌, ◌∙◌, ℕ, List, sym, ap, subst, insert}
-use Rattle.jl_logic.specs.Order.{is_text}
+use Rattle.std.proofs.Common.{◌∙◌, ℕ, List, sym, ap, insert}
 use Rattle.jl_config.specs.Placed.{place_in}
-use Rattle.jl_config.specs.Tables.{or_at}
-use Rattle.jl_config.specs.declared.placed.Placed.{Placed}
 use Rattle.jl_config.proofs.Noting.{noted_old}
 use Rattle.jl_config.proofs.MemberOrder.{put_rises, put_finds}
 use Rattle.jl_config.proofs.placed.put.Goals as goal

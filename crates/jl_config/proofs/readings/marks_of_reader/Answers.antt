@@ -1,6 +1,4 @@
-use Rattle.std.proofs.Common.{◌≡◌, ◌∙◌, ◌++◌, ◌∷◌, [], ap, sym, subst, List, ℕ, get_or}
-use Rattle.jl_closure.specs.Reached.{AreMarksOf}
-use Rattle.jl_config.specs.ReadRows.{required_places, read_rows, read_starts}
+use Rattle.std.proofs.Common.{◌∙◌, ◌++◌, ◌∷◌, [], ap, get_or}
 use Rattle.jl_config.proofs.ReadMarks.{rows_within, starts_within, marks_for}
 use Rattle.jl_config.proofs.readings.marks_of_reader.Goals as goal
 

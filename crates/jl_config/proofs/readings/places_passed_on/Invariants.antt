@@ -1,6 +1,5 @@
 use Rattle.std.proofs.Common.{◌≡◌, take, filter_map}
-use Rattle.jl_prim.specs.declared.declaration.Requires.{Requires}
-use Rattle.jl_config.specs.ReadRows.{meant_place, passed_place}
+use Rattle.jl_config.specs.ReadRows.{passed_place}
 use Rattle.jl_config.proofs.readings.places_passed_on.Given as goal
 
 abbrev pub invariant-loop-entry : goal.invariant-loop-entry

@@ -1,6 +1,6 @@
 use Rattle.std.proofs.Common.{◌≡◌, take, filter_map}
 use Rattle.jl_prim.specs.declared.declaration.Requires.{Requires}
-use Rattle.jl_config.specs.ReadRows.{meant_place, passed_place}
+use Rattle.jl_config.specs.ReadRows.{meant_place}
 use Rattle.jl_config.proofs.readings.places_required.Given as goal
 
 abbrev pub invariant-loop-entry : goal.invariant-loop-entry

@@ -1,7 +1,7 @@
-use Rattle.std.proofs.Common.{◌≡◌, ◌<◌, ◌≤◌, ◌∙◌, ap, ap₂, refl, sym, subst, length, get_or, filter_map}
+use Rattle.std.proofs.Common.{◌<◌, ◌≤◌, ◌∙◌, ap, ap₂, refl, sym, subst, length, get_or, filter_map}
 use Rattle.jl_config.specs.Places.{AreMarks}
 use Rattle.jl_config.specs.ReadRows.{marked_place}
-use Rattle.jl_config.proofs.ReadOrders.{none_read, one_read, more_read, all_read, place_contained}
+use Rattle.jl_config.proofs.ReadOrders.{one_read, more_read, all_read, place_contained}
 use Rattle.jl_config.proofs.readings.readings_of.Goals as goal
 
 pub loop-place-preserved : goal.loop-place-preserved

@@ -1,4 +1,4 @@
-use Rattle.std.proofs.Common.{◌≡◌, ◌<◌, ◌⊎◌, ◌≤◌, ap, sym, subst, length, List, ℕ}
+use Rattle.std.proofs.Common.{◌≡◌, ◌<◌, ◌⊎◌, ◌≤◌, subst, length, List, ℕ}
 use Rattle.std.proofs.lemmas.Result.{IfOk-weaker}
 use Rattle.jl_config.specs.Located.{Asked, scene_of}
 use Rattle.jl_config.specs.Places.{MissingFault, CycleFault, IsLeastSome}

@@ -1,9 +1,8 @@
-use Rattle.std.proofs.Common.{◌≡◌, ◌∙◌, sym, ap, subst, None, Some, Option, List}
+use Rattle.std.proofs.Common.{◌≡◌, None}
 use Rattle.std.proofs.lemmas.Result.{IfOk-weaker}
 use Rattle.jl_config.specs.declared.fault.ResolveFault.{ResolveFault}
 use Rattle.jl_config.specs.Located.{Asked, scene_of}
-use Rattle.jl_config.specs.Places.{SameNameFault, IsLeastSome}
-use Rattle.jl_config.specs.Refusals.{fault_cmp}
+use Rattle.jl_config.specs.Places.{SameNameFault}
 use Rattle.jl_config.specs.Settled.{StartsAt, Settles}
 use Rattle.jl_config.proofs.Assembled.{same_name_kind}
 use Rattle.jl_config.proofs.Decided.{settled, goes_on, none_of}

@@ -1,4 +1,4 @@
-use Rattle.std.proofs.Common.{◌≡◌, ◌∙◌, ◌+◌, sym, ap, subst, None, Option, length, ℕ}
+use Rattle.std.proofs.Common.{◌∙◌, ◌+◌, sym, ap, subst, Option, ℕ}
 use Rattle.jl_prim.specs.declared.numbers.ConfigId.{ConfigId}
 use Rattle.jl_config.specs.declared.fault.ResolveFault.{ResolveFault}
 use Rattle.jl_config.specs.Settled.{StartsAt, Settles}

@@ -1,4 +1,4 @@
-use Rattle.std.proofs.Common.{List, ℕ, nat_eq}
+use Rattle.std.proofs.Common.{nat_eq}
 use Rattle.std.specs.Cmp.Lexicographic.{pointwise}
 use Rattle.indexmap.specs.IndexMap.{get}
 use Rattle.jl_config.proofs.Sighted.{first_of_more}

@@ -1,4 +1,4 @@
-use Rattle.std.proofs.Common.{◌≡◌, ◌∙◌, ap, Some, cond, ℕ, List, nat_eq}
+use Rattle.std.proofs.Common.{◌∙◌, ap, Some, cond, ℕ, List, nat_eq}
 use Rattle.std.specs.Cmp.Lexicographic.{pointwise}
 use Rattle.indexmap.specs.IndexMap.{get}
 use Rattle.jl_config.proofs.Noting.{noted_new, noted_old, copied_none, copied_some}
