@@ -6,3 +6,12 @@ pub mod Refusals
 pub mod Resolves
 pub mod Laws
 pub mod Places
+pub mod Lineages
+pub mod Tables
+pub mod MemberRows
+pub mod Placed
+pub mod MissingNames
+pub mod Rounds
+pub mod ReadRows
+pub mod Collected
+pub mod Imported

@@ -2,7 +2,7 @@
 
 ghost use Rattle.std.specs.Prelude.{◌≡◌, [], ◌∷◌};
 
-use jl_prim::{ConfigId, Items, Name, Observed};
+use jl_prim::{ConfigId, Copied, CopyEnd, Items, Name, Observed};
 use std::alloc::Global;
 use std::marker::Model;
 
@@ -12,6 +12,16 @@ pub struct Read {
     pub reader: Name,
     pub config: ConfigId,
     pub name: Name,
+}
+
+impl Copied for Read {
+    fn copy(&self) -> Result<Read, CopyEnd> {
+        Ok(Read {
+            reader: self.reader.copy()?,
+            config: self.config,
+            name: self.name.copy()?,
+        })
+    }
 }
 
 /// What a resolution gives: its modules in name order, and which of them reads which.

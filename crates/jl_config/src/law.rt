@@ -5,18 +5,15 @@ ghost use Rattle.jl_config.specs.Laws.{ResolvesAlways, ResolvesOnce, RefusesWher
 /// Says that two answers of one resolution are the same, where memory was not wanting. There is nothing to
 /// run.
 pub fn resolves_once()
-    requires { ⊥ }
     ensures { ResolvesOnce }
 {}
 
 /// Says that each resolution has an answer, where memory is not wanting. There is nothing to run.
 pub fn resolves_always()
-    requires { ⊥ }
     ensures { ResolvesAlways }
 {}
 
 /// Says that a resolution is refused exactly where one of the conditions holds. There is nothing to run.
 pub fn refuses_where_one_holds()
-    requires { ⊥ }
     ensures { RefusesWhereOneHolds }
 {}

@@ -1,16 +1,33 @@
 //! Resolution of modules (JLS 7.7.1, `java.lang.module.Configuration`).
 #![tactic(auto)]
 
+mod ancestors;
+mod circle;
 mod configuration;
 mod fault;
+mod imports;
 mod law;
+mod member_rows;
 mod members;
+mod missing;
+mod packages;
+mod placed;
+mod provisions;
+mod readings;
+mod reads;
 mod resolution;
+mod same_name;
+mod services;
 mod sights;
 mod site;
+mod sorted;
+mod tables;
 
 pub use configuration::{Configuration, Read};
 pub use fault::ResolveFault;
 pub use law::{refuses_where_one_holds, resolves_always, resolves_once};
 pub use resolution::resolve;
 pub use site::Site;
+
+#[cfg(test)]
+mod tests;

@@ -1,0 +1,19 @@
+use Rattle.std.proofs.lemmas.Result.{err_from_is_err_and}
+use Rattle.jl_class.specs.Reading.{attribute_at, in_file, code_at}
+use Rattle.jl_class.specs.Meaning.{names_code}
+use Rattle.jl_class.proofs.StepLaws.{steps_more, steps_end, steps_done}
+use Rattle.jl_class.proofs.method.each_attribute.Goals as goal
+
+pub returns-in_err-read-clause-exact : goal.returns-in_err-read-clause-exact
+returns-in_err-read-clause-exact c =
+    let p = err_from_is_err_and c.from_residual.result c.from_residual.ensures.1 in
+    rw (p.1, p.2) (steps_end c.in_err-read.field-0.0 (attribute_at in_file names_code c.args.may_have_code (code_at c.args.pool.now) c.args.pool.now c.args.bytes.now) c.loop.done c.args.count c.loop.counter c.loop.next _ c.loop-test.true c.in_err-read.ensures.exact c.loop.invariant.reads)
+
+pub loop-preserved : goal.loop-preserved
+loop-preserved c = record {
+  within = c.in_ok-read.ensures.within;
+  reads = steps_more (attribute_at in_file names_code c.args.may_have_code (code_at c.args.pool.now) c.args.pool.now c.args.bytes.now) c.loop.done c.args.count c.loop.counter c.loop.next c.in_ok-read.read c.in_ok-read.after _ c.loop-test.true c.in_ok-read.ensures.exact c.loop.invariant.reads;
+}
+
+pub returns-clause-exact : goal.returns-clause-exact
+returns-clause-exact c = steps_done (attribute_at in_file names_code c.args.may_have_code (code_at c.args.pool.now) c.args.pool.now c.args.bytes.now) c.loop.done c.args.count c.loop.counter c.loop.next _ c.loop-test.false c.loop.invariant.reads

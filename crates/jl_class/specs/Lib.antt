@@ -1,0 +1,5 @@
+pub mod Classes
+pub mod Faults
+pub mod Meaning
+pub mod Reading
+pub mod Spelling

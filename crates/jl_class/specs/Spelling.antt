@@ -1,0 +1,191 @@
+-- The spelling of a class file: a relation between its bytes and a class (JVMS 4.1).
+use Rattle.std.specs.Prelude.{◌≡◌, ℕ, ◌<◌, List, [], ◌∷◌, ◌++◌, length, map, filter, position, Option, None, Some, IsTrue, Bool, false, is_some, ◌⊎◌, ⊤}
+use Rattle.std.specs.List.{flat_map, AllByRecursion}
+use Rattle.jl_logic.specs.Lists.{AreDistinct}
+use Rattle.jl_reading.specs.Reading.{Stands, two, four}
+use Rattle.jl_prim.specs.declared.declaration.Handler.{Handler}
+use Rattle.jl_names.specs.Names.{names_a_field}
+use Rattle.jl_pool.specs.declared.entry.Entry.{Entry}
+use Rattle.jl_pool.specs.Pool.{text_of}
+use Rattle.jl_pool.specs.Spelling.{StandsPool}
+use Rattle.jl_class.specs.declared.member.CodeBytes.{CodeBytes}
+use Rattle.jl_class.specs.declared.member.FieldDecl.{FieldDecl}
+use Rattle.jl_class.specs.declared.member.MethodDecl.{MethodDecl}
+use Rattle.jl_class.specs.declared.member.MemberKey.{MemberKey}
+use Rattle.jl_class.specs.Classes.{Class}
+use Rattle.jl_class.specs.Meaning.{is_interface, are_class_flags, are_field_flags, are_method_flags, has_code, text_that, class_named, super_named, may_extend, is_of_modules, names_method_with, describes_a_field, describes_method_with, field_key, method_key, sets_field, names_constant_value, names_code, names_frames}
+
+-- ---- the parts of a file, by numbers
+
+-- any attribute: the index of its name, and its content
+pub record Attribute : Type 0 where
+  pub index : ℕ
+  pub content : List ℕ
+
+-- a field or a method
+pub record Member : Type 0 where
+  pub flags : ℕ
+  pub name : ℕ
+  pub desc : ℕ
+  pub attributes : List Attribute
+
+-- the parts of a file behind its pool, where flags are the class's own
+pub record Parts : Type 0 where
+  pub this : ℕ
+  pub super : ℕ
+  pub interfaces : List ℕ
+  pub fields : List Member
+  pub methods : List Member
+  pub attributes : List Attribute
+
+-- ---- their bytes
+
+-- a count, and so many entries
+abbrev pub counted : {A : Type 0} → (A → List ℕ) → List A → List ℕ
+counted row_bytes rows = two (length rows) ++ flat_map row_bytes rows
+
+-- a length, and so many bytes
+abbrev pub measured : List ℕ → List ℕ
+measured text = four (length text) ++ text
+
+abbrev pub attribute_bytes : Attribute → List ℕ
+attribute_bytes a = two a.index ++ measured a.content
+
+abbrev pub member_bytes : Member → List ℕ
+member_bytes m = two m.flags ++ (two m.name ++ (two m.desc ++ counted attribute_bytes m.attributes))
+
+abbrev pub handler_bytes : Handler → List ℕ
+handler_bytes h = two h.start ++ (two h.end ++ (two h.target ++ two h.catch_type))
+
+-- the content of a Code attribute, with its attributes (JVMS 4.7.3)
+abbrev pub code_bytes : CodeBytes → List Attribute → List ℕ
+code_bytes c attributes =
+    two c.max_stack ++ (two c.max_locals ++ (measured c.code ++ (counted handler_bytes c.handlers ++ counted attribute_bytes attributes)))
+
+-- from the flags of the class to the end of the file
+abbrev pub back_bytes : ℕ → Parts → List ℕ
+back_bytes flags p =
+    two flags ++ (two p.this ++ (two p.super ++ (counted two p.interfaces
+    ++ (counted member_bytes p.fields ++ (counted member_bytes p.methods ++ counted attribute_bytes p.attributes)))))
+
+-- ---- attributes (JVMS 4.7)
+
+abbrev pub is_some_named : (List ℕ → Bool) → Option (List ℕ) → Bool
+is_some_named is_read None = false
+is_some_named is_read (Some name) = is_read name
+
+-- the contents of the attributes with names that are read
+abbrev pub contents : List Entry → (List ℕ → Bool) → List Attribute → List (List ℕ)
+contents pool is_read attributes = map (λ (a : Attribute). a.content) (filter (λ (a : Attribute). is_some_named is_read (text_of pool a.index)) attributes)
+
+-- an attribute has a name, and its numbers fit their bytes
+abbrev pub AttributeFits : List Entry → Attribute → Type 0
+AttributeFits pool a = (a.index < 65536) × (length a.content < 4294967296) × ((name : List ℕ) × (text_of pool a.index ≡ Some name))
+
+pub record AreAttributes (pool : List Entry) (attributes : List Attribute) : Type 0 where
+  pub few : length attributes < 65536
+  pub fit : AllByRecursion (AttributeFits pool) attributes
+
+-- at most one of the contents, and what it means
+abbrev pub AtMostOne : {V : Type 0} → (List ℕ → V → Type 0) → List (List ℕ) → Option V → Type 0
+AtMostOne M cs None = cs ≡ []
+AtMostOne {V} M cs (Some v) = (c : List ℕ) × (cs ≡ c ∷ []) × M c v
+
+-- the content of a ConstantValue attribute (JVMS 4.7.2)
+abbrev pub IsConstant : ℕ → List ℕ → List Entry → List ℕ → ℕ → Type 0
+IsConstant flags desc pool content i = (i < 65536) × (content ≡ two i) × IsTrue (sets_field flags desc pool i)
+
+-- the content of a StackMapTable attribute is kept as it is (JVMS 4.7.4)
+abbrev pub IsFrames : List ℕ → List ℕ → Type 0
+IsFrames content frames = content ≡ frames
+
+abbrev pub HandlerFits : Handler → Type 0
+HandlerFits h = (h.start < 65536) × (h.end < 65536) × (h.target < 65536) × (h.catch_type < 65536)
+
+-- the numbers of a Code attribute fit their bytes
+pub record CodeFits (c : CodeBytes) : Type 0 where
+  pub max_stack : c.max_stack < 65536
+  pub max_locals : c.max_locals < 65536
+  pub code : length c.code < 4294967296
+  pub few : length c.handlers < 65536
+  pub handlers : AllByRecursion HandlerFits c.handlers
+
+-- the content of a Code attribute
+pub record IsCode (pool : List Entry) (content : List ℕ) (c : CodeBytes) : Type 0 where
+  pub attributes : List Attribute
+  pub is : content ≡ code_bytes c attributes
+  pub fits : CodeFits c
+  pub fit : AreAttributes pool attributes
+  pub frames : AtMostOne IsFrames (contents pool names_frames attributes) c.frames
+
+-- ---- members (JVMS 4.5, 4.6)
+
+-- the numbers of a member fit their bytes, and its attributes have names
+pub record MemberFits (pool : List Entry) (m : Member) : Type 0 where
+  pub flags : m.flags < 65536
+  pub name : m.name < 65536
+  pub desc : m.desc < 65536
+  pub attributes : AreAttributes pool m.attributes
+
+-- a field of a class or of an interface
+pub record IsField (in_interface : Bool) (pool : List Entry) (m : Member) (f : FieldDecl) : Type 0 where
+  pub fits : MemberFits pool m
+  pub flags : f.flags ≡ m.flags
+  pub flagged : IsTrue (are_field_flags in_interface f.flags)
+  pub named : text_that names_a_field pool m.name ≡ Some f.name
+  pub described : text_that describes_a_field pool m.desc ≡ Some f.desc
+  pub constant : AtMostOne (IsConstant f.flags f.desc pool) (contents pool names_constant_value m.attributes) f.constant
+
+-- a method, which has code exactly where it is neither native nor abstract
+pub record IsMethod (pool : List Entry) (m : Member) (d : MethodDecl) : Type 0 where
+  pub fits : MemberFits pool m
+  pub flags : d.flags ≡ m.flags
+  pub flagged : IsTrue (are_method_flags d.flags)
+  pub named : text_that (names_method_with d.flags) pool m.name ≡ Some d.name
+  pub described : text_that (describes_method_with d.name) pool m.desc ≡ Some d.desc
+  pub code : AtMostOne (IsCode pool) (contents pool names_code m.attributes) d.code
+  pub has : is_some d.code ≡ has_code d.flags
+
+-- one of these for each of those, in order
+abbrev pub Match : {A B : Type 0} → (A → B → Type 0) → List A → List B → Type 0
+Match R [] [] = ⊤
+Match R (a ∷ xs) (b ∷ ys) = R a b × Match R xs ys
+Match R [] (b ∷ ys) = ⊥
+Match R (a ∷ xs) [] = ⊥
+
+-- A table declares these members, no two of which have one name and descriptor.
+pub record IsTable {B : Type 0} (R : Member → B → Type 0) (key : B → MemberKey) (rows : List Member) (members : List B) : Type 0 where
+  pub few : length rows < 65536
+  pub each : Match R rows members
+  pub distinct : AreDistinct (map key members)
+
+-- an index of two bytes has this name
+abbrev pub HasName : {A : Type 0} → (ℕ → Option A) → ℕ → A → Type 0
+HasName named i name = (i < 65536) × (named i ≡ Some name)
+
+-- ---- the whole file
+
+-- the parts behind the pool declare the class
+pub record Declares (p : Parts) (c : Class) : Type 0 where
+  pub flags : c.flags < 65536
+  pub flagged : IsTrue (are_class_flags c.flags)
+  pub this : HasName (class_named c.pool) p.this c.name
+  pub super : HasName (super_named c.pool) p.super c.super_name
+  pub extends : IsTrue (may_extend c.flags c.name c.super_name)
+  pub few : length p.interfaces < 65536
+  pub interfaces : Match (HasName (class_named c.pool)) p.interfaces c.interfaces
+  pub fields : IsTable (IsField (is_interface c.flags) c.pool) field_key p.fields c.fields
+  pub methods : IsTable (IsMethod c.pool) method_key p.methods c.methods
+  pub attributes : AreAttributes c.pool p.attributes
+
+-- The bytes are a class file that declares c.
+pub record IsClass (bytes : List ℕ) (c : Class) : Type 0 where
+  pub parts : Parts
+  pub pool_end : ℕ
+  pub minor : c.minor < 65536
+  pub version : (c.major ≡ 53) ⊎ (c.major ≡ 54)
+  pub front : Stands bytes 0 (four 0xCAFEBABE ++ (two c.minor ++ two c.major)) 8
+  pub pool : StandsPool bytes 8 c.pool pool_end
+  pub inside : position is_of_modules c.pool ≡ None
+  pub back : Stands bytes pool_end (back_bytes c.flags parts) (length bytes)
+  pub declares : Declares parts c

@@ -1,0 +1,140 @@
+//! Classes and interfaces.
+
+ghost use Rattle.std.specs.Prelude.{◌≡◌, ◌&&◌, position};
+ghost use Rattle.std.specs.Option.{option_copied};
+ghost use Rattle.jl_logic.specs.Order.{is_text};
+ghost use Rattle.jl_class.specs.declared.member.FieldDecl.{FieldDecl};
+ghost use Rattle.jl_class.specs.declared.member.MethodDecl.{MethodDecl};
+
+use crate::member::{FieldDecl, MethodDecl};
+use jl_pool::Pool;
+use jl_prim::{Items, Name};
+use std::marker::Model;
+
+/// A class or an interface as a class file declares it (JVMS 4.1). Class names are in internal form, with
+/// `/`.
+#[derive(Debug, Drop)]
+pub struct ClassDecl {
+    major: u16,
+    minor: u16,
+    flags: u16,
+    name: Name,
+    super_name: Option<Name>,
+    interfaces: Items<Name>,
+    fields: Items<FieldDecl>,
+    methods: Items<MethodDecl>,
+    pool: Pool,
+}
+
+impl Model for ClassDecl {
+    ghost use Rattle.jl_class.specs.Classes.{Class};
+
+    ghost Value = { Class };
+
+    ghost view = { λ c. record { major = c.major; minor = c.minor; flags = c.flags; name = c.name; super_name = c.super_name; interfaces = c.interfaces; fields = c.fields; methods = c.methods; pool = c.pool } };
+}
+
+impl ClassDecl {
+    /// A class of these parts.
+    pub fn from_parts(
+        version: (u16, u16),
+        flags: u16,
+        name: Name,
+        super_name: Option<Name>,
+        interfaces: Items<Name>,
+        fields: Items<FieldDecl>,
+        methods: Items<MethodDecl>,
+        pool: Pool,
+    ) -> ClassDecl
+        ensures { result ≡ record { major = version.0; minor = version.1; flags = flags; name = name; super_name = super_name; interfaces = interfaces; fields = fields; methods = methods; pool = pool } }
+    {
+        let (major, minor) = version;
+        ClassDecl {
+            major,
+            minor,
+            flags,
+            name,
+            super_name,
+            interfaces,
+            fields,
+            methods,
+            pool,
+        }
+    }
+
+    /// The major and the minor version of the file.
+    pub fn version(&self) -> (u16, u16)
+        ensures { result ≡ record { 0 = self.now.major; 1 = self.now.minor } }
+    {
+        (self.major, self.minor)
+    }
+
+    /// The access and property flags.
+    pub fn flags(&self) -> u16
+        ensures { result ≡ self.now.flags }
+    {
+        self.flags
+    }
+
+    /// The name of the class.
+    pub fn name(&self) -> &Name
+        ensures { result.now ≡ self.now.name }
+    {
+        &self.name
+    }
+
+    /// The name of the superclass. Only `java/lang/Object` has none.
+    pub fn super_name(&self) -> Option<&Name>
+        ensures { option_copied result ≡ self.now.super_name }
+    {
+        self.super_name.as_ref()
+    }
+
+    /// The names of the interfaces that it names, in order.
+    pub fn interfaces(&self) -> &[Name]
+        ensures { result.now ≡ self.now.interfaces }
+    {
+        self.interfaces.as_slice()
+    }
+
+    /// The fields, in order.
+    pub fn fields(&self) -> &[FieldDecl]
+        ensures { result.now ≡ self.now.fields }
+    {
+        self.fields.as_slice()
+    }
+
+    /// The methods, in order.
+    pub fn methods(&self) -> &[MethodDecl]
+        ensures { result.now ≡ self.now.methods }
+    {
+        self.methods.as_slice()
+    }
+
+    /// The constant pool.
+    pub fn pool(&self) -> &Pool
+        ensures { result.now ≡ self.now.pool }
+    {
+        &self.pool
+    }
+
+    /// The place, from 0, of the field with a name and a descriptor.
+    pub fn field(&self, name: &[u8], desc: &[u8]) -> Option<usize>
+        ensures { result ≡ position (λ (f : FieldDecl). is_text f.name name.now && is_text f.desc desc.now) self.now.fields }
+    {
+        self.fields
+            .as_slice()
+            .iter()
+            .position(|f| f.name.as_bytes() == name && f.desc.as_bytes() == desc)
+    }
+
+    /// The place, from 0, of the method with a name and a descriptor.
+    pub fn method(&self, name: &[u8], desc: &[u8]) -> Option<usize>
+        ensures { result ≡ position (λ (m : MethodDecl). is_text m.name name.now && is_text m.desc desc.now) self.now.methods }
+    {
+        self.methods
+            .as_slice()
+            .iter()
+            .position(|m| m.name.as_bytes() == name && m.desc.as_bytes() == desc)
+    }
+}

@@ -1,0 +1,25 @@
+//! Class files (JVMS 4): the class that the bytes declare, or the first fault from the left.
+#![tactic(auto)]
+
+mod attribute;
+mod class;
+mod code;
+mod fault;
+mod field;
+mod flags;
+mod front;
+mod member;
+mod method;
+mod names;
+mod reading;
+mod source;
+mod table;
+
+pub use class::ClassDecl;
+pub use fault::ClassFault;
+pub use flags::{are_class_flags, are_field_flags, are_method_flags, has_code, is_interface};
+pub use member::{CodeBytes, FieldDecl, MemberKey, MethodDecl};
+pub use reading::read_class;
+
+#[cfg(test)]
+mod tests;

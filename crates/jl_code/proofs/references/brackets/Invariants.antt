@@ -1,0 +1,12 @@
+use Rattle.std.proofs.Common.{◌≡◌, ◌+◌, length}
+use Rattle.jl_names.specs.Descriptors as types
+use Rattle.jl_code.proofs.references.brackets.Given as goal
+
+abbrev pub invariant-loop-rest : goal.invariant-loop-rest
+invariant-loop-rest l = record {
+  counted : l.count + types.brackets l.rest ≡ types.brackets l.text;
+  within : l.count + length l.rest ≡ length l.text;
+}
+
+abbrev pub decreases-loop-rest : goal.decreases-loop-rest
+decreases-loop-rest l = length l.rest

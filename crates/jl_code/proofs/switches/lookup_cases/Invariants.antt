@@ -1,0 +1,11 @@
+use Rattle.std.proofs.Common.{◌≡◌, ◌-◌, ◌≤◌, [], length}
+use Rattle.jl_reading.specs.Reading.{each_at}
+use Rattle.jl_code.specs.Operands as words
+use Rattle.jl_code.proofs.switches.lookup_cases.Given as goal
+
+abbrev pub invariant-loop-i : goal.invariant-loop-i
+invariant-loop-i l = record {
+  within : l.after ≤ length l.code;
+  on : l.next ≤ l.after;
+  reads : each_at (words.lookup_case l.at l.code) l.cases.items (l.count - l._i) l.after ≡ each_at (words.lookup_case l.at l.code) [] l.count l.next;
+}

@@ -1,0 +1,291 @@
+-- A resolution put together of the searches for refusals of one kind each, and of the modules and reads.
+use Rattle.std.proofs.Common.{◌≡◌, ◌≢◌, ◌⊎◌, ◌<◌, ◌≤◌, ℕ, zero, suc, ◌-◌, List, [], ◌∷◌, length, map, inl, inr, ⊎_elim, refl, sym, ◌∙◌, ap, subst, Contains, All, Option, Some, None, Bool, true, false, Less, Greater, nat_cmp, Err, slice_get, filter_map, arith}
+use Rattle.std.specs.List.{AllByRecursion, cons_option}
+use Rattle.std.specs.Ordering.{ordering_then}
+use Rattle.std.proofs.lemmas.Cmp.{ranked, by_ranked}
+use Rattle.std.proofs.lemmas.List.Elements.{All-from_recursion, All-contains}
+use Rattle.jl_prim.specs.declared.declaration.Observed.{Observed}
+use Rattle.jl_logic.specs.Order.{RisesBy, IsLeast}
+use Rattle.jl_logic.proofs.Rising.{contains_head, contains_tail, contains_cases, contains_nothing, each_from_members}
+use Rattle.jl_config.specs.declared.fault.ResolveFault.{ResolveFault}
+use Rattle.jl_config.specs.declared.fault.ResolveFault.TheVariants.{NoParents, NotFound, TooMany, Cycle, SameName, SamePackage, OwnPackage, ServicePackage, NoMemory}
+use Rattle.jl_config.specs.declared.site.Site.{Site}
+use Rattle.jl_config.specs.Graphs.{Graph}
+use Rattle.jl_config.specs.Located.{Asked, Scene, scene_of}
+use Rattle.jl_config.specs.Members.{Enumerated, IsBound, IsMemberBy, IsMember}
+use Rattle.jl_config.specs.Orders.{module_cmp, site_cmp}
+use Rattle.jl_config.specs.Places.{AreMembers, sites_at, MissingFault, CycleFault, SameNameFault, SamePackageFault, OwnPackageFault, ServiceFault}
+use Rattle.jl_config.specs.Refusals.{IsLarge, most, Applies, rank, fields, fields_cmp, fault_cmp}
+use Rattle.jl_config.specs.Resolves.{Resolves, AreModules, AreJustified, new_site}
+use Rattle.jl_config.proofs.FaultOrder.{fault_total, sites_total}
+use Rattle.jl_config.proofs.Always.{IsTooMany, module_here}
+use Rattle.jl_config.proofs.RisingLists.{not_below_itself, no_longer}
+use Rattle.jl_config.proofs.Unique.{told_by_least}
+
+-- ---- kinds of refusals, in their order
+
+-- K is what applies of the kind with this rank
+pub record IsKind (q : Asked) (k : ℕ) (K : ResolveFault → Type 0) : Type 0 where
+  pub applies : (f : ResolveFault) → K f → Applies q f
+  pub ranked : (f : ResolveFault) → K f → rank f ≡ k
+  pub all : (f : ResolveFault) → Applies q f → rank f ≡ k → K f
+
+-- no refusal of an earlier kind applies
+pub record NoneBefore (q : Asked) (k : ℕ) : Type 0 where
+  pub least : (f : ResolveFault) → Applies q f → k ≤ rank f
+
+pub none_at_first : (q : Asked) → NoneBefore q 0
+none_at_first q = record { least = λ f a. omega arith }
+
+pub none_further : (q : Asked) (k : ℕ) (K : ResolveFault → Type 0) → IsKind q k K → NoneBefore q k → ((f : ResolveFault) → K f → ⊥) → NoneBefore q (suc k)
+none_further q k K kind before none = record { least = λ f a. further (rank f) (before.least f a) (λ e. none f (kind.all f a e)) }
+  where
+    further : (r : ℕ) → k ≤ r → (r ≡ k → ⊥) → suc k ≤ r
+    further r h n = omega arith
+
+pub nothing_applies : (q : Asked) → NoneBefore q 8 → (f : ResolveFault) → Applies q f → ⊥
+nothing_applies q before NoParents a = let h = before.least NoParents a in omega arith
+nothing_applies q before (NotFound name by) a = let h = before.least (NotFound name by) a in omega arith
+nothing_applies q before TooMany a = let h = before.least TooMany a in omega arith
+nothing_applies q before (Cycle least) a = let h = before.least (Cycle least) a in omega arith
+nothing_applies q before (SameName reader name) a = let h = before.least (SameName reader name) a in omega arith
+nothing_applies q before (SamePackage reader p one other) a = let h = before.least (SamePackage reader p one other) a in omega arith
+nothing_applies q before (OwnPackage reader p other) a = let h = before.least (OwnPackage reader p other) a in omega arith
+nothing_applies q before (ServicePackage name service) a = let h = before.least (ServicePackage name service) a in omega arith
+nothing_applies q before NoMemory a = a
+
+-- one of a later kind is not less
+later_not_less : (f g : ResolveFault) → rank f < rank g → fault_cmp g f ≢ Less
+later_not_less f g lt e =
+    by_ranked (rank g < rank f) (rank g ≡ rank f) (rank f < rank g) (nat_cmp (rank g) (rank f)) (ranked (rank g) (rank f) (nat_cmp (rank g) (rank f)) refl)
+    (λ r h. omega arith)
+    (λ r h. omega arith)
+    (λ r h. let greater : ordering_then Greater (fields_cmp (fields g) (fields f)) ≡ Less = subst (λ o. ordering_then o (fields_cmp (fields g) (fields f)) ≡ Less) r e in absurd cc)
+
+-- the least of the first kind that applies is the answer
+pub first_refusal : (q : Asked) (k : ℕ) (K : ResolveFault → Type 0) → IsKind q k K → NoneBefore q k → (f : ResolveFault) → IsLeast fault_cmp K f → Resolves q (Err f)
+first_refusal q k K kind before f least = told_by_least q f (record {
+  has = kind.applies f least.has;
+  least = λ g a. ⊎_elim (λ e. least.least g (kind.all g a e)) (λ lt. later_not_less f g (past (rank f) (rank g) (kind.ranked f least.has) lt)) (same_or_later (rank g) (before.least g a));
+})
+  where
+    past : (r s : ℕ) → r ≡ k → k < s → r < s
+    past r s e lt = omega arith
+
+    same_or_later : (s : ℕ) → k ≤ s → (s ≡ k) ⊎ (k < s)
+    same_or_later s h = by (s - k) refl
+      where
+        by : (d : ℕ) → s - k ≡ d → (s ≡ k) ⊎ (k < s)
+        by zero e = inl (omega arith)
+        by (suc d) e = inr (omega arith)
+
+-- ---- each kind
+
+abbrev pub NoParentsFault : Asked → ResolveFault → Type 0
+NoParentsFault q f = (q.parents ≡ []) × (NoParents ≡ f)
+
+abbrev pub TooManyFault : Asked → ResolveFault → Type 0
+TooManyFault q f = IsTooMany q × (TooMany ≡ f)
+
+no_parents_all : (q : Asked) (f : ResolveFault) → Applies q f → rank f ≡ 0 → NoParentsFault q f
+no_parents_all q NoParents a e = (a, refl)
+no_parents_all q f a e = absurd (omega arith)
+
+pub no_parents_kind : (q : Asked) → IsKind q 0 (NoParentsFault q)
+no_parents_kind q = record { applies = λ f k. subst (Applies q) k.1 k.0; ranked = λ f k. ap rank (sym k.1); all = no_parents_all q }
+
+too_many_all : (q : Asked) (f : ResolveFault) → Applies q f → rank f ≡ 2 → TooManyFault q f
+too_many_all q TooMany a e = (a, refl)
+too_many_all q f a e = absurd (omega arith)
+
+pub too_many_kind : (q : Asked) → IsKind q 2 (TooManyFault q)
+too_many_kind q = record { applies = λ f k. subst (Applies q) k.1 k.0; ranked = λ f k. ap rank (sym k.1); all = too_many_all q }
+
+missing_applies : (q : Asked) (f : ResolveFault) → MissingFault (scene_of q) f → Applies q f × (rank f ≡ 1)
+missing_applies q (NotFound name by) k = (k, refl)
+missing_applies q f k = absurd k
+
+missing_all : (q : Asked) (f : ResolveFault) → Applies q f → rank f ≡ 1 → MissingFault (scene_of q) f
+missing_all q (NotFound name by) a e = a
+missing_all q f a e = absurd (omega arith)
+
+pub missing_kind : (q : Asked) → IsKind q 1 (MissingFault (scene_of q))
+missing_kind q = record { applies = λ f k. (missing_applies q f k).0; ranked = λ f k. (missing_applies q f k).1; all = missing_all q }
+
+cycle_applies : (q : Asked) (f : ResolveFault) → CycleFault (scene_of q) f → Applies q f × (rank f ≡ 3)
+cycle_applies q (Cycle least) k = (k, refl)
+cycle_applies q f k = absurd k
+
+cycle_all : (q : Asked) (f : ResolveFault) → Applies q f → rank f ≡ 3 → CycleFault (scene_of q) f
+cycle_all q (Cycle least) a e = a
+cycle_all q f a e = absurd (omega arith)
+
+pub cycle_kind : (q : Asked) → IsKind q 3 (CycleFault (scene_of q))
+cycle_kind q = record { applies = λ f k. (cycle_applies q f k).0; ranked = λ f k. (cycle_applies q f k).1; all = cycle_all q }
+
+same_name_applies : (q : Asked) (f : ResolveFault) → SameNameFault (scene_of q) f → Applies q f × (rank f ≡ 4)
+same_name_applies q (SameName reader name) k = (k, refl)
+same_name_applies q f k = absurd k
+
+same_name_all : (q : Asked) (f : ResolveFault) → Applies q f → rank f ≡ 4 → SameNameFault (scene_of q) f
+same_name_all q (SameName reader name) a e = a
+same_name_all q f a e = absurd (omega arith)
+
+pub same_name_kind : (q : Asked) → IsKind q 4 (SameNameFault (scene_of q))
+same_name_kind q = record { applies = λ f k. (same_name_applies q f k).0; ranked = λ f k. (same_name_applies q f k).1; all = same_name_all q }
+
+same_package_applies : (q : Asked) (f : ResolveFault) → SamePackageFault (scene_of q) f → Applies q f × (rank f ≡ 5)
+same_package_applies q (SamePackage reader p one other) k = (k, refl)
+same_package_applies q f k = absurd k
+
+same_package_all : (q : Asked) (f : ResolveFault) → Applies q f → rank f ≡ 5 → SamePackageFault (scene_of q) f
+same_package_all q (SamePackage reader p one other) a e = a
+same_package_all q f a e = absurd (omega arith)
+
+pub same_package_kind : (q : Asked) → IsKind q 5 (SamePackageFault (scene_of q))
+same_package_kind q = record { applies = λ f k. (same_package_applies q f k).0; ranked = λ f k. (same_package_applies q f k).1; all = same_package_all q }
+
+own_package_applies : (q : Asked) (f : ResolveFault) → OwnPackageFault (scene_of q) f → Applies q f × (rank f ≡ 6)
+own_package_applies q (OwnPackage reader p other) k = (k, refl)
+own_package_applies q f k = absurd k
+
+own_package_all : (q : Asked) (f : ResolveFault) → Applies q f → rank f ≡ 6 → OwnPackageFault (scene_of q) f
+own_package_all q (OwnPackage reader p other) a e = a
+own_package_all q f a e = absurd (omega arith)
+
+pub own_package_kind : (q : Asked) → IsKind q 6 (OwnPackageFault (scene_of q))
+own_package_kind q = record { applies = λ f k. (own_package_applies q f k).0; ranked = λ f k. (own_package_applies q f k).1; all = own_package_all q }
+
+service_applies : (q : Asked) (f : ResolveFault) → ServiceFault (scene_of q) f → Applies q f × (rank f ≡ 7)
+service_applies q (ServicePackage name service) k = (k, refl)
+service_applies q f k = absurd k
+
+service_all : (q : Asked) (f : ResolveFault) → Applies q f → rank f ≡ 7 → ServiceFault (scene_of q) f
+service_all q (ServicePackage name service) a e = a
+service_all q f a e = absurd (omega arith)
+
+pub service_kind : (q : Asked) → IsKind q 7 (ServiceFault (scene_of q))
+service_kind q = record { applies = λ f k. (service_applies q f k).0; ranked = λ f k. (service_applies q f k).1; all = service_all q }
+
+-- ---- the kinds that have no fields
+
+alone_least : (A : Type 0) (f : ResolveFault) → A → IsLeast fault_cmp (λ g. A × (f ≡ g)) f
+alone_least A f a = record { has = (a, refl); least = λ g k l. not_below_itself fault_cmp fault_total f (subst (λ h. fault_cmp h f ≡ Less) (sym k.1) l) }
+
+pub no_parents_first : (q : Asked) → q.parents ≡ [] → Resolves q (Err NoParents)
+no_parents_first q e = first_refusal q 0 (NoParentsFault q) (no_parents_kind q) (none_at_first q) NoParents (alone_least (q.parents ≡ []) NoParents e)
+
+pub too_many_first : (q : Asked) → NoneBefore q 2 → IsTooMany q → Resolves q (Err TooMany)
+too_many_first q before k = first_refusal q 2 (TooManyFault q) (too_many_kind q) before TooMany (alone_least (IsTooMany q) TooMany k)
+
+-- ---- what is bound
+
+enumerated_bound : (w : Scene) (n : ℕ) (s : Site) → Enumerated w n s → IsBound w s
+enumerated_bound w zero s e = ([], (e.0, inl e.1, tt))
+enumerated_bound w (suc n) s (found, (p, e, needs)) =
+    let before = enumerated_bound w n p e in
+    (p ∷ before.0, (found, inr (inl (p, contains_head p before.0, needs)), before.1))
+
+member_bound_by : (b : Bool) (w : Scene) (s : Site) → IsMemberBy b w s → IsBound w s
+member_bound_by true w s m = m
+member_bound_by false w s (n, e) = enumerated_bound w n s e
+
+pub member_bound : (w : Scene) (s : Site) → IsMember w s → IsBound w s
+member_bound w s m = member_bound_by w.binds w s m
+
+pub justified_by_members : (q : Asked) (g : Graph) → AreModules q g.modules → AreJustified q g
+justified_by_members q g modules o c = member_bound (scene_of q) (new_site q o) (modules.only o c)
+
+-- ---- members by their places, in order
+
+module _ {X Y : Type 0} (h : X → Option Y) where
+  kept : (xs : List X) (x : X) (y : Y) → Contains xs x → h x ≡ Some y → Contains (filter_map h xs) y
+  kept [] x y c e = contains_nothing x c
+  kept (w ∷ xs) x y c e = ⊎_elim (λ f. here (h w) (ap h f ∙ e)) (λ k. later (h w) (kept xs x y k e)) (contains_cases w x xs c)
+    where
+      here : (o : Option Y) → o ≡ Some y → Contains (cons_option o (filter_map h xs)) y
+      here None f = absurd cc
+      here (Some z) f = let g : z ≡ y = cc in subst (λ v. Contains (z ∷ filter_map h xs) v) g (contains_head z (filter_map h xs))
+
+      later : (o : Option Y) → Contains (filter_map h xs) y → Contains (cons_option o (filter_map h xs)) y
+      later None k = k
+      later (Some z) k = contains_tail z y (filter_map h xs) k
+
+  kept_from : (xs : List X) (y : Y) → Contains (filter_map h xs) y → (x : X) × Contains xs x × (h x ≡ Some y)
+  kept_from [] y c = contains_nothing y c
+  kept_from (w ∷ xs) y c = by (λ k. let r = kept_from xs y k in (r.0, contains_tail w r.0 xs r.1, r.2)) (h w) refl c
+    where
+      by : (Contains (filter_map h xs) y → (x : X) × Contains (w ∷ xs) x × (h x ≡ Some y)) → (o : Option Y) → h w ≡ o → Contains (cons_option o (filter_map h xs)) y → (x : X) × Contains (w ∷ xs) x × (h x ≡ Some y)
+      by more None e k = more k
+      by more (Some z) e k = ⊎_elim (λ f. (w, contains_head w xs, e ∙ ap Some f)) more (contains_cases z y (filter_map h xs) k)
+
+  kept_long : (xs : List X) → AllByRecursion (λ x. (y : Y) × (h x ≡ Some y)) xs → length (filter_map h xs) ≡ length xs
+  kept_long [] a = refl
+  kept_long (w ∷ xs) a = by (kept_long xs a.1) (h w) a.0.0 a.0.1
+    where
+      by : length (filter_map h xs) ≡ length xs → (o : Option Y) (y : Y) → o ≡ Some y → length (cons_option o (filter_map h xs)) ≡ length (w ∷ xs)
+      by more None y e = absurd cc
+      by more (Some z) y e = omega arith
+
+item_below : {X : Type 0} (xs : List X) (p : ℕ) → p < length xs → (x : X) × (slice_get xs p ≡ Some x)
+item_below [] p h = absurd (omega arith)
+item_below (x ∷ xs) zero h = (x, refl)
+item_below (x ∷ xs) (suc p) h = item_below xs p (omega arith)
+
+sites_long : (w : Scene) (ps : List ℕ) → All (λ p. p < length w.sites) ps → length (sites_at w ps) ≡ length ps
+sites_long w ps a = kept_long (slice_get w.sites) ps (each_from_members (λ p. (s : Site) × (slice_get w.sites p ≡ Some s)) ps (λ p c. item_below w.sites p (All-contains (λ k. k < length w.sites) ps p a c)))
+
+members_at : (w : Scene) (ps : List ℕ) → AreMembers w ps → (s : Site) → Contains (sites_at w ps) s → IsMember w s
+members_at w ps m s c = let k = kept_from (slice_get w.sites) ps s c in (m.only k.0 s k.1 k.2).0
+
+at_members : (w : Scene) (ps : List ℕ) → AreMembers w ps → (s : Site) → IsMember w s → Contains (sites_at w ps) s
+at_members w ps m s k = let r = m.all s k in kept (slice_get w.sites) ps r.0 s r.1 r.2
+
+-- the set is too large exactly where there are more places than that
+pub large_by_places : (w : Scene) (ps : List ℕ) → AreMembers w ps → most < length ps → IsLarge w
+large_by_places w ps m h =
+    let long : length (sites_at w ps) ≡ length ps = sites_long w ps m.within in
+    (sites_at w ps, m.rise, All-from_recursion (IsMember w) (sites_at w ps) (each_from_members (IsMember w) (sites_at w ps) (members_at w ps m)), more (length (sites_at w ps)) (length ps) long h)
+  where
+    more : (a b : ℕ) → a ≡ b → most < b → most < a
+    more a b e l = omega arith
+
+pub not_large_by_places : (w : Scene) (ps : List ℕ) → AreMembers w ps → length ps ≤ most → IsLarge w → ⊥
+not_large_by_places w ps m h large =
+    let long : length (sites_at w ps) ≡ length ps = sites_long w ps m.within in
+    let shorter : length large.0 ≤ length (sites_at w ps) = no_longer site_cmp sites_total large.0 (sites_at w ps) large.1 m.rise (λ s c. at_members w ps m s (All-contains (IsMember w) large.0 s large.2 c)) in
+    few (length large.0) (length (sites_at w ps)) (length ps) shorter long h large.3
+  where
+    few : (a b c : ℕ) → a ≤ b → b ≡ c → c ≤ most → most < a → ⊥
+    few a b c h e k l = omega arith
+
+-- ---- the modules, copied in the order of the places
+
+abbrev pub observed_of : Site → Observed
+observed_of s = s.observed
+
+above_mapped : (s : Site) (ss : List Site) → AllByRecursion (λ t. site_cmp s t ≡ Less) ss → AllByRecursion (λ o. module_cmp s.observed o ≡ Less) (map observed_of ss)
+above_mapped s [] h = tt
+above_mapped s (t ∷ ss) h = (h.0, above_mapped s ss h.1)
+
+rises_mapped : (ss : List Site) → RisesBy site_cmp ss → RisesBy module_cmp (map observed_of ss)
+rises_mapped [] up = tt
+rises_mapped (s ∷ ss) up = (above_mapped s ss up.0, rises_mapped ss up.1)
+
+mapped : (ss : List Site) (s : Site) → Contains ss s → Contains (map observed_of ss) s.observed
+mapped [] s c = contains_nothing s c
+mapped (t ∷ ss) s c = ⊎_elim (λ e. subst (λ v. Contains (t.observed ∷ map observed_of ss) (observed_of v)) e (contains_head t.observed (map observed_of ss))) (λ k. contains_tail t.observed s.observed (map observed_of ss) (mapped ss s k)) (contains_cases t s ss c)
+
+mapped_from : (ss : List Site) (o : Observed) → Contains (map observed_of ss) o → (s : Site) × Contains ss s × (s.observed ≡ o)
+mapped_from [] o c = contains_nothing o c
+mapped_from (t ∷ ss) o c = ⊎_elim (λ e. (t, contains_head t ss, e)) (λ k. let r = mapped_from ss o k in (r.0, contains_tail t r.0 ss r.1, r.2)) (contains_cases t.observed o (map observed_of ss) c)
+
+pub modules_by_places : (q : Asked) (ps : List ℕ) (os : List Observed) → AreMembers (scene_of q) ps → os ≡ map observed_of (sites_at (scene_of q) ps) → AreModules q os
+modules_by_places q ps os m e = subst (AreModules q) (sym e) (record {
+  rise = rises_mapped (sites_at (scene_of q) ps) m.rise;
+  only = λ o c.
+      let r = mapped_from (sites_at (scene_of q) ps) o c in
+      let here : IsMember (scene_of q) r.0 = members_at (scene_of q) ps m r.0 r.1 in
+      subst (IsMember (scene_of q)) (module_here q r.0 o here r.2) here;
+  all = λ s k. mapped (sites_at (scene_of q) ps) s (at_members (scene_of q) ps m s k);
+})

@@ -1,0 +1,277 @@
+-- What a closure over the reads' rows marks is what a module reads.
+use Rattle.std.proofs.Common.{◌≡◌, ◌<◌, ◌⊎◌, ℕ, zero, suc, List, [], ◌∷◌, ◌++◌, length, get_or, slice_get, map, inl, inr, ⊎_elim, refl, sym, ◌∙◌, ap, subst, Contains, All, Option, Some, None, Bool, true, false, cond, not, ◌||◌, IsTrue, filter_map}
+use Rattle.std.proofs.lemmas.List.{length-map}
+use Rattle.std.proofs.lemmas.Option.{slice_get_within, get_or_from_slice_get, slice_get-get_or}
+use Rattle.std.proofs.lemmas.List.Elements.{All-map, All-from_recursion, All-push}
+use Rattle.jl_prim.specs.declared.numbers.ConfigId.{ConfigId}
+use Rattle.jl_prim.specs.declared.declaration.Requires.{Requires}
+use Rattle.jl_closure.specs.Reached.{Chain, Follows, IsReached, AreMarksOf}
+use Rattle.jl_closure.proofs.Always.{marks_exist}
+use Rattle.jl_logic.proofs.Rising.{contains_head, contains_tail, contains_cases, contains_nothing, each_from_members}
+use Rattle.jl_config.specs.declared.configuration.Read.{Read}
+use Rattle.jl_config.specs.declared.site.Site.{Site}
+use Rattle.jl_config.specs.Located.{Scene, site_name, located, is_here, own_meaning, find_read, read_site}
+use Rattle.jl_config.specs.Members.{IsFound, Enumerated, IsMemberBy, IsMember, MeansHere, MeansBy, Means, IsRequired, IsPassedOn, ReadsBy, Reads, is_passed_on}
+use Rattle.jl_config.specs.Places.{place_named, place_of_site, read_place, own_place, AreMarks, AreReadBy}
+use Rattle.jl_config.specs.ReadRows.{is_open_site, is_open, open_place, meant_place, required_places, passed_place, passed_places, read_rows, read_starts}
+use Rattle.jl_config.proofs.ReadLists.{into_map, from_map, into_filter_map, from_filter_map, row_at, contains_left, contains_right, contains_either}
+use Rattle.jl_config.proofs.ReadFinds.{PlacedBy, SitedBy, place_shows, place_exists, site_shows, site_exists, named_first}
+
+-- a place, the module there, and that it is the first of its configuration and name
+pub record First (w : Scene) (p : ℕ) (b : Site) : Type 0 where
+  pub at : slice_get w.sites p ≡ Some b
+  pub first : place_of_site b.config (site_name b) w.sites ≡ Some p
+
+same_some : {X : Type 0} (x y : X) (o : Option X) → o ≡ Some x → o ≡ Some y → x ≡ y
+same_some x y o e f = cc
+
+pub placed_first : (w : Scene) (name : List ℕ) (p : ℕ) (b : Site) → place_named name w.sites ≡ Some p → slice_get w.sites p ≡ Some b → First w p b
+placed_first w name p b e at =
+    let s = place_shows name w.sites p e in
+    let same : s.site ≡ b = same_some s.site b (slice_get w.sites p) s.at at in
+    let named : name ≡ site_name b = sym s.named ∙ ap site_name same in
+    record { at = at; first = subst (λ n. place_of_site b.config n w.sites ≡ Some p) named (named_first name w.sites p b e at) }
+
+-- ---- what a name means
+
+own_shows : (w : Scene) (o : Option Read) (p : ℕ) → read_place w.sites o ≡ Some p → (b : Site) × First w p b × (read_site w.sites o ≡ Some b)
+own_shows w None p e = absurd cc
+own_shows w (Some r) p e =
+    let s = site_shows r.config r.name w.sites p e in
+    let first : place_of_site s.site.config (site_name s.site) w.sites ≡ Some p = rw (s.numbered, s.named) e in
+    (s.site, record { at = s.at; first = first }, s.found)
+
+own_has : (w : Scene) (o : Option Read) (b : Site) → read_site w.sites o ≡ Some b → (p : ℕ) × (read_place w.sites o ≡ Some p) × (slice_get w.sites p ≡ Some b)
+own_has w None b e = absurd cc
+own_has w (Some r) b e = site_exists r.config r.name w.sites b e
+
+-- what a place that is kept says
+open_shows : (w : Scene) (marks : List Bool) (o : Option ℕ) (p : ℕ) → open_place w marks o ≡ Some p → (o ≡ Some p) × (is_open w marks p ≡ true)
+open_shows w marks None p e = absurd cc
+open_shows w marks (Some q) p e = by (is_open w marks q) refl e
+  where
+    by : (b : Bool) → is_open w marks q ≡ b → cond b (Some q) None ≡ Some p → (Some q ≡ Some p) × (is_open w marks p ≡ true)
+    by true f g = let m : q ≡ p = cc in (g, subst (λ k. is_open w marks k ≡ true) m f)
+    by false f g = absurd cc
+
+open_member : (w : Scene) (mark : Bool) (b : Site) → is_open_site w mark (Some b) ≡ true → IsTrue (is_here w b) → mark ≡ true
+open_member w mark b e h = let f : (not true || mark) ≡ true = subst (λ t. (not t || mark) ≡ true) h e in f
+
+module _ (w : Scene) (marks : List Bool) (right : AreMarks w marks) where
+  mark_set : (p : ℕ) (b : Site) → slice_get w.sites p ≡ Some b → get_or marks p false ≡ true → slice_get marks p ≡ Some true
+  mark_set p b at e =
+      let lt : p < length marks = subst (λ n. p < n) (sym right.one_each) (slice_get_within w.sites p b at) in
+      slice_get-get_or marks p false lt ∙ ap Some e
+
+  here_shows : (name : List ℕ) (p : ℕ) → open_place w marks (place_named name w.sites) ≡ Some p → (b : Site) × First w p b × MeansHere w name b
+  here_shows name p e =
+      let o = open_shows w marks (place_named name w.sites) p e in
+      let s = place_shows name w.sites p o.0 in
+      let opened : is_open_site w (get_or marks p false) (Some s.site) ≡ true = subst (λ (x : Option Site). is_open_site w (get_or marks p false) x ≡ true) s.at o.1 in (
+        s.site,
+        placed_first w name p s.site o.0 s.at,
+        record {
+          meant = s.found;
+          member = λ h. (right.only p s.site s.at (mark_set p s.site s.at (open_member w (get_or marks p false) s.site opened h))).0;
+        },
+      )
+
+  is_kept : (b : Site) (p : ℕ) → slice_get w.sites p ≡ Some b → (IsTrue (is_here w b) → slice_get marks p ≡ Some true) → is_open w marks p ≡ true
+  is_kept b p at h = rw at (by (is_here w b) refl)
+    where
+      by : (t : Bool) → is_here w b ≡ t → (not t || get_or marks p false) ≡ true
+      by true e = get_or_from_slice_get marks p true false (h e)
+      by false e = refl
+
+  here_has : (name : List ℕ) (b : Site) → MeansHere w name b → (p : ℕ) × (open_place w marks (place_named name w.sites) ≡ Some p) × (slice_get w.sites p ≡ Some b)
+  here_has name b m =
+      let s = place_exists name w.sites b m.meant in
+      let named : site_name b ≡ name = let r = place_shows name w.sites s.0 s.1 in ap site_name (sym (same_some r.site b (slice_get w.sites s.0) r.at s.2)) ∙ r.named in
+      let marked : IsTrue (is_here w b) → slice_get marks s.0 ≡ Some true = λ h. right.all s.0 b s.2 (m.member h) (ap (λ n. place_named n w.sites) named ∙ s.1) in
+      let kept : is_open w marks s.0 ≡ true = is_kept b s.0 s.2 marked in
+      (s.0, rw (s.1, kept) refl, s.2)
+
+  pub meant_shows : (c : Site) (name : List ℕ) (p : ℕ) → meant_place w marks c name ≡ Some p → (b : Site) × First w p b × Means w c name b
+  meant_shows c name p e = by (is_here w c) e
+    where
+      by : (t : Bool) → cond t (open_place w marks (place_named name w.sites)) (own_place w c name) ≡ Some p → (b : Site) × First w p b × MeansBy t w c name b
+      by true f = here_shows name p f
+      by false f = own_shows w (find_read c.config (site_name c) name w.reads) p f
+
+  pub meant_has : (c : Site) (name : List ℕ) (b : Site) → Means w c name b → (p : ℕ) × (meant_place w marks c name ≡ Some p) × (slice_get w.sites p ≡ Some b)
+  meant_has c name b m = by (is_here w c) m
+    where
+      by : (t : Bool) → MeansBy t w c name b → (p : ℕ) × (cond t (open_place w marks (place_named name w.sites)) (own_place w c name) ≡ Some p) × (slice_get w.sites p ≡ Some b)
+      by true n = here_has name b n
+      by false n = own_has w (find_read c.config (site_name c) name w.reads) b n
+
+  -- ---- rows
+
+  passed_shows : (c : Site) (r : Requires) (p : ℕ) → passed_place w marks c r ≡ Some p → IsTrue (is_passed_on r) × (meant_place w marks c r.name ≡ Some p)
+  passed_shows c r p e = by (is_passed_on r) refl e
+    where
+      by : (b : Bool) → is_passed_on r ≡ b → cond b (meant_place w marks c r.name) None ≡ Some p → IsTrue (is_passed_on r) × (meant_place w marks c r.name ≡ Some p)
+      by true f g = (f, g)
+      by false f g = absurd cc
+
+  passed_has : (c : Site) (r : Requires) (p : ℕ) → IsTrue (is_passed_on r) → meant_place w marks c r.name ≡ Some p → passed_place w marks c r ≡ Some p
+  passed_has c r p t e = rw t e
+
+  row_shows : (q p : ℕ) (c : Site) → slice_get w.sites q ≡ Some c → Follows (read_rows w marks) q p → (b : Site) × First w p b × IsPassedOn w c b
+  row_shows q p c at h =
+      let row : get_or (read_rows w marks) q [] ≡ passed_places w marks c = row_at (passed_places w marks) w.sites q c [] at in
+      let v = from_filter_map (passed_place w marks c) c.observed.declaration.required p (subst (λ l. Contains l p) row h) in
+      let s = passed_shows c v.0 p v.2 in
+      let m = meant_shows c v.0.name p s.1 in
+      (m.0, m.1, (v.0, v.1, s.0, m.2))
+
+  row_has : (q : ℕ) (c b : Site) → slice_get w.sites q ≡ Some c → IsPassedOn w c b → (p : ℕ) × Follows (read_rows w marks) q p × (slice_get w.sites p ≡ Some b)
+  row_has q c b at h =
+      let row : get_or (read_rows w marks) q [] ≡ passed_places w marks c = row_at (passed_places w marks) w.sites q c [] at in
+      let m = meant_has c h.0.name b h.3 in
+      (m.0, subst (λ l. Contains l m.0) (sym row) (into_filter_map (passed_place w marks c) c.observed.declaration.required h.0 m.0 h.1 (passed_has c h.0 m.0 h.2 m.1)), m.2)
+
+  -- ---- chains
+
+  module _ (a : Site) (place : ℕ) (here : First w place a) where
+    passed_on : (c b : Site) → Reads w a c → IsPassedOn w c b → Reads w a b
+    passed_on c b h p = ⊎_elim (λ e. let f : IsPassedOn w a b = subst (λ v. IsPassedOn w v b) (sym e) p in inr (0, (f.0, f.1, f.3))) (λ m. inr (suc m.0, (c, m.1, p))) h
+
+    chain_shows : (n p : ℕ) → Chain (read_rows w marks) (read_starts w marks a place) n p → (b : Site) × First w p b × Reads w a b
+    chain_shows zero p h =
+        ⊎_elim
+        (λ c.
+        let v = from_filter_map (λ (r : Requires). meant_place w marks a r.name) a.observed.declaration.required p c in
+        let m = meant_shows a v.0.name p v.2 in
+        (m.0, m.1, inr (0, (v.0, v.1, m.2))))
+        (λ c. let e : place ≡ p = ⊎_elim (λ e. e) (λ k. contains_nothing p k) (contains_cases place p [] c) in (a, subst (λ q. First w q a) e here, inl refl))
+        (contains_either (required_places w marks a) (place ∷ []) p h)
+    chain_shows (suc n) p h =
+        let before = chain_shows n h.0 h.1 in
+        let s = row_shows h.0 p before.0 before.1.at h.2 in
+        (s.0, s.1, passed_on before.0 s.0 before.2 s.2)
+
+    chain_has : (n : ℕ) (b : Site) → ReadsBy w n a b → (p : ℕ) × Chain (read_rows w marks) (read_starts w marks a place) n p × (slice_get w.sites p ≡ Some b)
+    chain_has zero b h =
+        let m = meant_has a h.0.name b h.2 in
+        (m.0, contains_left (required_places w marks a) (place ∷ []) m.0 (into_filter_map (λ (r : Requires). meant_place w marks a r.name) a.observed.declaration.required h.0 m.0 h.1 m.1), m.2)
+    chain_has (suc n) b h =
+        let before = chain_has n h.0 h.1 in
+        let s = row_has before.0 h.0 b before.2 h.2 in
+        (s.0, (before.0, before.1, s.1), s.2)
+
+    reached_has : (b : Site) → Reads w a b → (p : ℕ) × IsReached (read_rows w marks) (read_starts w marks a place) p × (slice_get w.sites p ≡ Some b)
+    reached_has b h =
+        ⊎_elim
+        (λ e. (place, (0, contains_right (required_places w marks a) (place ∷ []) place (contains_head place [])), here.at ∙ ap Some e))
+        (λ m. let s = chain_has m.0 b m.1 in (s.0, (m.0, s.1), s.2))
+        h
+
+    -- places with exactly those that are marked are what a reads
+    pub read_by_marks : (reached : List Bool) (ps : List ℕ) → AreMarksOf (read_rows w marks) (read_starts w marks a place) reached
+        → ((p : ℕ) → Contains ps p → slice_get reached p ≡ Some true) → ((p : ℕ) → slice_get reached p ≡ Some true → Contains ps p) → AreReadBy w a ps
+    read_by_marks reached ps m only all = record {
+      within = All-from_recursion (λ p. p < length w.sites) ps (each_from_members (λ p. p < length w.sites) ps (λ p c.
+          let r = m.only p (only p c) in
+          let s = chain_shows r.0 p r.1 in
+          slice_get_within w.sites p s.0 s.1.at));
+      only = λ p b c at.
+          let r = m.only p (only p c) in
+          let s = chain_shows r.0 p r.1 in
+          let same : s.0 ≡ b = same_some s.0 b (slice_get w.sites p) s.1.at at in
+          (subst (Reads w a) same s.2, (subst (First w p) same s.1).first);
+      all = λ b h. let s = reached_has b h in (s.0, all s.0 (m.all s.0 s.1), s.2);
+    }
+
+-- ---- places are within
+
+meant_within : (w : Scene) (marks : List Bool) (c : Site) (name : List ℕ) (p : ℕ) → meant_place w marks c name ≡ Some p → p < length w.sites
+meant_within w marks c name p e = by (is_here w c) e
+  where
+    by : (t : Bool) → cond t (open_place w marks (place_named name w.sites)) (own_place w c name) ≡ Some p → p < length w.sites
+    by true f = let o = open_shows w marks (place_named name w.sites) p f in let s = place_shows name w.sites p o.0 in slice_get_within w.sites p s.site s.at
+    by false f = let s = own_shows w (find_read c.config (site_name c) name w.reads) p f in slice_get_within w.sites p s.0 s.1.at
+
+each_place : {X : Type 0} (h : X → Option ℕ) (n : ℕ) → ((x : X) (p : ℕ) → h x ≡ Some p → p < n) → (xs : List X) → All (λ p. p < n) (filter_map h xs)
+each_place h n below xs = All-from_recursion (λ p. p < n) (filter_map h xs) (each_from_members (λ p. p < n) (filter_map h xs) (λ p c. let v = from_filter_map h xs p c in below v.0 p v.2))
+
+passed_within : (w : Scene) (marks : List Bool) (c : Site) → All (λ p. p < length w.sites) (passed_places w marks c)
+passed_within w marks c = each_place (passed_place w marks c) (length w.sites) (λ r p e. by r p (is_passed_on r) e) c.observed.declaration.required
+  where
+    by : (r : Requires) (p : ℕ) (b : Bool) → cond b (meant_place w marks c r.name) None ≡ Some p → p < length w.sites
+    by r p true e = meant_within w marks c r.name p e
+    by r p false e = absurd cc
+
+pub rows_long : (w : Scene) (marks : List Bool) → length (read_rows w marks) ≡ length w.sites
+rows_long w marks = length-map w.sites (passed_places w marks)
+
+pub rows_within : (w : Scene) (marks : List Bool) (next : List (List ℕ)) → next ≡ read_rows w marks → All (λ row. All (λ p. p < length next) row) next
+rows_within w marks next e = subst (λ (n : List (List ℕ)). All (λ row. All (λ p. p < length n) row) n) (sym e)
+    (All-map (λ row. All (λ p. p < length (read_rows w marks)) row) (passed_places w marks) w.sites
+    (λ k d lt. subst (λ n. All (λ p. p < n) (passed_places w marks (get_or w.sites k d))) (sym (rows_long w marks)) (passed_within w marks (get_or w.sites k d))))
+
+pub starts_within : (w : Scene) (marks : List Bool) (a : Site) (place : ℕ) (next : List (List ℕ)) (starts : List ℕ) → next ≡ read_rows w marks → starts ≡ read_starts w marks a place → place < length w.sites → All (λ p. p < length next) starts
+starts_within w marks a place next starts e f lt =
+    let long : length w.sites ≡ length next = sym (rows_long w marks) ∙ ap length (sym e) in
+    let each : All (λ p. p < length w.sites) (required_places w marks a) = each_place (λ (r : Requires). meant_place w marks a r.name) (length w.sites) (λ r p g. meant_within w marks a r.name p g) a.observed.declaration.required in
+    let whole : All (λ p. p < length w.sites) (read_starts w marks a place) = All-push (λ p. p < length w.sites) (required_places w marks a) place each lt in
+    subst (λ s. All (λ p. p < length next) s) (sym f) (subst (λ n. All (λ p. p < n) (read_starts w marks a place)) long whole)
+
+-- ---- a module of the set
+
+pub member_found : (w : Scene) (a : Site) → IsMember w a → IsFound w a
+member_found w a m = by w.binds m
+  where
+    by_steps : (n : ℕ) → Enumerated w n a → IsFound w a
+    by_steps zero h = h.0
+    by_steps (suc n) h = h.0
+
+    by : (b : Bool) → IsMemberBy b w a → IsFound w a
+    by true h = h.1.0
+    by false h = by_steps h.0 h.1
+
+pub member_first : (w : Scene) (a : Site) → IsMember w a → (p : ℕ) × First w p a
+member_first w a m =
+    let s = place_exists (site_name a) w.sites a (member_found w a m).meant in
+    (s.0, placed_first w (site_name a) s.0 a s.1 s.2)
+
+-- the places whose marks are set
+abbrev places_of : List Bool → List ℕ
+places_of [] = []
+places_of (true ∷ marks) = 0 ∷ map (λ p. suc p) (places_of marks)
+places_of (false ∷ marks) = map (λ p. suc p) (places_of marks)
+
+places_show : (marks : List Bool) (p : ℕ) → Contains (places_of marks) p → slice_get marks p ≡ Some true
+places_show [] p c = contains_nothing p c
+places_show (true ∷ marks) p c =
+    ⊎_elim
+    (λ e. subst (λ k. slice_get (true ∷ marks) k ≡ Some true) e refl)
+    (λ k. let r = from_map (λ q. suc q) (places_of marks) p k in subst (λ q. slice_get (true ∷ marks) q ≡ Some true) r.2 (places_show marks r.0 r.1))
+    (contains_cases 0 p (map (λ q. suc q) (places_of marks)) c)
+places_show (false ∷ marks) p c = let r = from_map (λ q. suc q) (places_of marks) p c in subst (λ q. slice_get (false ∷ marks) q ≡ Some true) r.2 (places_show marks r.0 r.1)
+
+places_have : (marks : List Bool) (p : ℕ) → slice_get marks p ≡ Some true → Contains (places_of marks) p
+places_have [] p e = absurd cc
+places_have (true ∷ marks) zero e = contains_head 0 (map (λ q. suc q) (places_of marks))
+places_have (true ∷ marks) (suc p) e = contains_tail 0 (suc p) (map (λ q. suc q) (places_of marks)) (into_map (λ q. suc q) (places_of marks) p (places_have marks p e))
+places_have (false ∷ marks) zero e = absurd cc
+places_have (false ∷ marks) (suc p) e = into_map (λ q. suc q) (places_of marks) p (places_have marks p e)
+
+-- what a module of the set reads has places
+pub reads_exist : (w : Scene) (marks : List Bool) → AreMarks w marks → (a : Site) → IsMember w a → (ps : List ℕ) × AreReadBy w a ps
+reads_exist w marks right a m =
+    let f = member_first w a m in
+    let graph = rows_within w marks (read_rows w marks) refl in
+    let starts = starts_within w marks a f.0 (read_rows w marks) (read_starts w marks a f.0) refl refl (slice_get_within w.sites f.0 a f.1.at) in
+    let reached = marks_exist (read_rows w marks) (read_starts w marks a f.0) graph starts in
+    (places_of reached.0, read_by_marks w marks right a f.0 f.1 reached.0 (places_of reached.0) reached.1 (places_show reached.0) (places_have reached.0))
+
+-- the marks of a closure, from what it was given
+pub marks_for : (w : Scene) (marks : List Bool) (a : Site) (place : ℕ) (next : List (List ℕ)) (starts : List ℕ) (reached : List Bool) → next ≡ read_rows w marks
+    → (s : Site) → slice_get w.sites place ≡ Some a → place < length w.sites → s ≡ get_or w.sites place s → starts ≡ read_starts w marks s place
+    → length reached ≡ length next → ((p : ℕ) → slice_get reached p ≡ Some true → IsReached next starts p) → ((p : ℕ) → IsReached next starts p → slice_get reached p ≡ Some true)
+    → AreMarksOf (read_rows w marks) (read_starts w marks a place) reached
+marks_for w marks a place next starts reached e s at lt is f long only all =
+    let here : slice_get w.sites place ≡ Some s = slice_get-get_or w.sites place s lt ∙ ap Some (sym is) in
+    let same : s ≡ a = same_some s a (slice_get w.sites place) here at in
+    subst (λ n. AreMarksOf n (read_starts w marks a place) reached) e (subst (λ b. AreMarksOf next b reached) (f ∙ ap (λ v. read_starts w marks v place) same) (record { one_each = long; only = only; all = all }))

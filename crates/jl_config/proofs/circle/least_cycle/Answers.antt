@@ -1,0 +1,51 @@
+use Rattle.std.proofs.Common.{◌≡◌, ◌∙◌, ◌<◌, ap, sym, subst, None, Some, All, Option, length, slice_get, List, ℕ, Bool, arith}
+use Rattle.std.proofs.lemmas.List.Elements.{All-contains}
+use Rattle.jl_logic.specs.Order.{IsLeast}
+use Rattle.jl_config.specs.declared.site.Site.{Site}
+use Rattle.jl_config.specs.declared.fault.ResolveFault.{ResolveFault}
+use Rattle.jl_config.specs.Places.{AreMarks, CycleFault}
+use Rattle.jl_config.specs.Refusals.{fault_cmp}
+use Rattle.jl_config.specs.Rounds.{edge_rows, IsFirstRound}
+use Rattle.jl_config.proofs.CyclePlaces.{edges_within, edges_long, no_cycle, cycle_right, first_within}
+use Rattle.jl_config.proofs.circle.least_cycle.Goals as goal
+
+pub first_round-requires-clause-graph : goal.first_round-requires-clause-graph
+first_round-requires-clause-graph c =
+    let w = c.args.sights.now in
+    let marks = c.args.members.now.marks.items in
+    let e : c.as_slice-2.result.now ≡ edge_rows w marks = c.as_slice-2.ensures.value ∙ c.in_ok-rows.ensures ∙ ap (edge_rows w) c.as_slice.ensures.value in
+    subst (λ (n : List (List ℕ)). All (λ row. All (λ p. p < length n) row) n) (sym e) (subst (λ (n : ℕ). All (λ row. All (λ p. p < n) row) (edge_rows w marks)) (sym (edges_long w marks c.requires.marks)) (edges_within w marks c.requires.marks))
+
+-- what the search found, over the rows of the scene
+as_found : (rows rows_seen : List (List ℕ)) (ps ps_seen : List ℕ) (found other : Option ℕ) → rows_seen ≡ rows → ps_seen ≡ ps → found ≡ other → IsFirstRound rows_seen ps_seen found → IsFirstRound rows ps other
+as_found rows rows_seen ps ps_seen found other e f g h =
+    subst (λ (o : Option ℕ). IsFirstRound rows ps o) g (subst (λ (l : List ℕ). IsFirstRound rows l found) f (subst (λ (n : List (List ℕ)). IsFirstRound n ps_seen found) e h))
+
+pub returns-in-None : goal.returns-in-None
+returns-in-None c =
+    let w = c.args.sights.now in
+    let marks = c.args.members.now.marks.items in
+    let ps = c.args.members.now.places.items in
+    let e : c.as_slice-2.result.now ≡ edge_rows w marks = c.as_slice-2.ensures.value ∙ c.in_ok-rows.ensures ∙ ap (edge_rows w) c.as_slice.ensures.value in
+    let first : IsFirstRound (edge_rows w marks) ps None = as_found (edge_rows w marks) c.as_slice-2.result.now ps c.as_slice-3.result.now c.in_ok-first_round.field-0 None e c.as_slice-3.ensures.value c.in-None.is c.in_ok-first_round.ensures in
+    no_cycle w marks c.requires.marks ps c.requires.places first
+
+pub cycle_at-requires : goal.cycle_at-requires
+cycle_at-requires c =
+    let w = c.args.sights.now in
+    let marks = c.args.members.now.marks.items in
+    let ps = c.args.members.now.places.items in
+    let e : c.as_slice-2.result.now ≡ edge_rows w marks = c.as_slice-2.ensures.value ∙ c.in_ok-rows.ensures ∙ ap (edge_rows w) c.as_slice.ensures.value in
+    let first : IsFirstRound (edge_rows w marks) ps (Some c.in-Some.place) = as_found (edge_rows w marks) c.as_slice-2.result.now ps c.as_slice-3.result.now c.in_ok-first_round.field-0 (Some c.in-Some.place) e c.as_slice-3.ensures.value c.in-Some.is c.in_ok-first_round.ensures in
+    subst (λ (l : List Site). c.in-Some.place < length l) (sym c.sites.ensures) (first_within w marks c.requires.marks ps c.requires.places c.in-Some.place first)
+
+pub returns : goal.returns
+returns c =
+    let w = c.args.sights.now in
+    let marks = c.args.members.now.marks.items in
+    let ps = c.args.members.now.places.items in
+    let e : c.as_slice-2.result.now ≡ edge_rows w marks = c.as_slice-2.ensures.value ∙ c.in_ok-rows.ensures ∙ ap (edge_rows w) c.as_slice.ensures.value in
+    let first : IsFirstRound (edge_rows w marks) ps (Some c.in-Some.place) = as_found (edge_rows w marks) c.as_slice-2.result.now ps c.as_slice-3.result.now c.in_ok-first_round.field-0 (Some c.in-Some.place) e c.as_slice-3.ensures.value c.in-Some.is c.in_ok-first_round.ensures in
+    let at = c.in_ok-cycle_at-in-Some.ensures in
+    let here : slice_get w.sites c.in-Some.place ≡ Some at.0 = ap (λ (l : List Site). slice_get l c.in-Some.place) (sym c.sites.ensures) ∙ at.1 in
+    subst (λ (f : ResolveFault). IsLeast fault_cmp (CycleFault w) f) (sym at.2) (cycle_right w marks c.requires.marks ps c.requires.places c.in-Some.place at.0 here first)

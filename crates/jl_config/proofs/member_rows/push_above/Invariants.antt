@@ -1,0 +1,6 @@
+use Rattle.std.proofs.Common.{◌≡◌, ◌++◌, drop}
+use Rattle.jl_config.specs.MemberRows.{above_from}
+use Rattle.jl_config.proofs.member_rows.push_above.Given as goal
+
+abbrev pub invariant-loop-at : goal.invariant-loop-at
+invariant-loop-at l = l.starts.items ++ above_from l.sights l.at (drop l.at l.sights.sites) ≡ l.fn.starts.items ++ above_from l.sights 0 l.sights.sites

@@ -1,0 +1,6 @@
+use Rattle.std.proofs.Common.{◌≡◌, ◌++◌, take, flat_map}
+use Rattle.jl_config.specs.MemberRows.{listed, needed_places}
+use Rattle.jl_config.proofs.member_rows.row_of.Given as goal
+
+abbrev pub invariant-loop-service : goal.invariant-loop-service
+invariant-loop-service l = l.row.items ≡ needed_places l.sights l.site ++ flat_map (listed l.table) (take l.service-index l.site.observed.declaration.uses)

@@ -1,0 +1,6 @@
+use Rattle.std.proofs.Common.{◌≡◌, take, map}
+use Rattle.jl_config.specs.MemberRows.{listed, member_row}
+use Rattle.jl_config.proofs.member_rows.rows_by.Given as goal
+
+abbrev pub invariant-loop-site : goal.invariant-loop-site
+invariant-loop-site l = l.rows.items ≡ map (member_row l.sights (listed l.table)) (take l.site-index l.sights.sites)

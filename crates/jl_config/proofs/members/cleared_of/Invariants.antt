@@ -1,0 +1,6 @@
+use Rattle.std.proofs.Common.{◌≡◌, ◌++◌, drop}
+use Rattle.jl_config.specs.MemberRows.{cleared}
+use Rattle.jl_config.proofs.members.cleared_of.Given as goal
+
+abbrev pub invariant-loop-at : goal.invariant-loop-at
+invariant-loop-at l = l.kept.items ++ cleared l.sights (drop l.at l.sights.sites) (drop l.at l.marks) ≡ cleared l.sights l.sights.sites l.marks

@@ -1,0 +1,5 @@
+use Rattle.jl_config.proofs.ReadOrders.{AreRead}
+use Rattle.jl_config.proofs.readings.readings_of.Given as goal
+
+abbrev pub invariant-loop-place : goal.invariant-loop-place
+invariant-loop-place l = AreRead l.sights l.members.places.items l.place-index l.readings.items

@@ -1,0 +1,93 @@
+-- The places that the closure of the set begins with, and those that each place brings in. No public clause cites these.
+use Rattle.std.specs.Prelude.{◌≡◌, ℕ, ◌+◌, List, [], ◌∷◌, ◌++◌, map, Option, None, Some, Bool, false, ◌&&◌, ◌==◌, slice_get, unwrap_or, nat_eq, if◌then◌else◌}
+use Rattle.std.specs.List.{filter_map, flat_map}
+use Rattle.std.specs.Option.{option_map_or}
+use Rattle.std.specs.Cmp.Lexicographic.{pointwise}
+use Rattle.indexmap.specs.IndexMap.{IndexMap, get}
+use Rattle.jl_prim.specs.declared.declaration.Requires.{Requires}
+use Rattle.jl_prim.specs.declared.declaration.Provides.{Provides}
+use Rattle.jl_prim.specs.declared.declaration.Observed.{Observed}
+use Rattle.jl_logic.specs.Order.{is_text}
+use Rattle.jl_config.specs.declared.site.Site.{Site}
+use Rattle.jl_config.specs.declared.provisions.Provision.{Provision}
+use Rattle.jl_config.specs.Located.{Scene, site_name, is_here}
+use Rattle.jl_config.specs.Members.{is_followed}
+use Rattle.jl_config.specs.Places.{place_named, sites_at}
+
+abbrev pub here_at : Scene → ℕ → Bool
+here_at w p = option_map_or (is_here w) (slice_get w.sites p) false
+
+abbrev pub kept_here : Scene → Option ℕ → Option ℕ
+kept_here w None = None
+kept_here w (Some p) = if here_at w p then Some p else None
+
+-- the place where a name is located, if a finder observes the module
+abbrev pub found_place : Scene → List ℕ → Option ℕ
+found_place w name = kept_here w (place_named name w.sites)
+
+abbrev pub needed_place : Scene → Requires → Option ℕ
+needed_place w r = if is_followed r then found_place w r.name else None
+
+-- ---- providers
+
+abbrev pub is_place : ℕ → Option ℕ → Bool
+is_place p None = false
+is_place p (Some q) = q == p
+
+-- what the module at a place provides, if it is found
+abbrev pub provided_by : ℕ → List Provides → List Provision
+provided_by p entries = map (λ (e : Provides). record { service = e.service; place = p }) entries
+
+abbrev pub provisions_of : Scene → ℕ → Site → List Provision
+provisions_of w p s = if is_place p (found_place w (site_name s)) then provided_by p s.observed.declaration.provides else []
+
+abbrev pub provisions_from : Scene → ℕ → List Site → List Provision
+provisions_from w p [] = []
+provisions_from w p (s ∷ ss) = provisions_of w p s ++ provisions_from w (p + 1) ss
+
+-- with binding what all modules that are found provide
+abbrev pub offers : Scene → List Provision
+offers w = if w.binds then provisions_from w 0 w.sites else []
+
+abbrev pub for_service : List ℕ → Provision → Option ℕ
+for_service service v = if is_text v.service service then Some v.place else None
+
+-- the places of those that provide a service
+abbrev pub providers : List Provision → List ℕ → List ℕ
+providers vs service = filter_map (for_service service) vs
+
+-- the same, of a table
+abbrev pub listed : {S : Type 0} → IndexMap (List ℕ) (List ℕ) S → List ℕ → List ℕ
+listed table service = unwrap_or (get (pointwise nat_eq) table service) []
+
+-- ---- rows and starts
+
+abbrev pub needed_places : Scene → Site → List ℕ
+needed_places w s = if is_here w s then filter_map (needed_place w) s.observed.declaration.required else []
+
+-- the places that a module brings in
+abbrev pub member_row : Scene → (List ℕ → List ℕ) → Site → List ℕ
+member_row w serve s = needed_places w s ++ flat_map serve s.observed.declaration.uses
+
+abbrev pub member_rows : Scene → List (List ℕ)
+member_rows w = map (member_row w (providers (offers w))) w.sites
+
+-- the places of ancestors' modules
+abbrev pub above_from : Scene → ℕ → List Site → List ℕ
+above_from w p [] = []
+above_from w p (s ∷ ss) = if is_here w s then above_from w (p + 1) ss else p ∷ above_from w (p + 1) ss
+
+abbrev pub member_starts : Scene → List ℕ
+member_starts w = filter_map (found_place w) w.roots ++ (if w.binds then above_from w 0 w.sites else [])
+
+-- ---- marks and places
+
+-- the marks of modules that a finder observes
+abbrev pub cleared : Scene → List Site → List Bool → List Bool
+cleared w [] marks = []
+cleared w (s ∷ ss) [] = []
+cleared w (s ∷ ss) (mark ∷ marks) = (mark && is_here w s) ∷ cleared w ss marks
+
+-- the modules at places
+abbrev pub modules_at : Scene → List ℕ → List Observed
+modules_at w ps = map (λ (s : Site). s.observed) (sites_at w ps)

@@ -1,0 +1,62 @@
+//! The ancestors of a configuration: its parent, that one's parent, and so on.
+
+ghost use Rattle.std.specs.Prelude.{◌≡◌, ◌≤◌, ◌+◌, ◌++◌, length, map, OnOk, MatchOption};
+ghost use Rattle.std.specs.List.{flat_map};
+ghost use Rattle.jl_config.specs.Graphs.{Graph};
+ghost use Rattle.jl_config.specs.Located.{empty_graph, graph_of, lineage, sites_of};
+ghost use Rattle.jl_config.specs.Lineages.{reads_with, all_sites, all_reads};
+
+use crate::configuration::{Configuration, Read};
+use crate::site::{Site, push_sites};
+use jl_prim::{ConfigId, Copied, CopyEnd};
+
+/// Adds the modules of the ancestors, the nearest first, and what they read.
+pub fn push_ancestors(
+    sites: &mut Vec<Site>,
+    reads: &mut Vec<(ConfigId, Read)>,
+    known: &[Configuration],
+    parents: &[ConfigId],
+) -> Result<(), CopyEnd>
+    requires { length known.now ≤ 4096 }
+    ensures sites { OnOk result (sites.new.items ≡ sites.old.items ++ all_sites (lineage (length known.now + 1) known.now parents.now)) }
+    ensures reads { OnOk result (reads.new.items ≡ reads.old.items ++ all_reads (lineage (length known.now + 1) known.now parents.now)) }
+{
+    let mut next = parents;
+    let mut left = known.len() + 1;
+    while left > 0 {
+        let Some(parent) = next.first() else {
+            return Ok(());
+        };
+        let Some(graph) = graph_of(known, *parent) else {
+            return Ok(());
+        };
+        push_sites(sites, graph.id(), graph.modules())?;
+        push_reads(reads, graph.id(), graph.reads())?;
+        next = graph.parents();
+        left -= 1;
+    }
+    Ok(())
+}
+
+/// The configuration with a number, but for the empty one.
+fn graph_of(known: &[Configuration], id: ConfigId) -> Option<&Configuration>
+    ensures { MatchOption result (graph_of known.now id ≡ empty_graph) (λ g. g.now ≡ graph_of known.now id) }
+{
+    if id.0 == 0 {
+        return None;
+    }
+    known.get(id.0 as usize - 1)
+}
+
+fn push_reads(
+    all: &mut Vec<(ConfigId, Read)>,
+    config: ConfigId,
+    reads: &[Read],
+) -> Result<(), CopyEnd>
+    ensures { OnOk result (all.new.items ≡ all.old.items ++ reads_with config reads.now) }
+{
+    for read in reads {
+        all.push((config, read.copy()?))?;
+    }
+    Ok(())
+}

@@ -1,0 +1,124 @@
+//! What each module of the set gets from other modules.
+
+ghost use Rattle.std.specs.Prelude.{◌≡◌, ◌<◌, ◌↔◌, length, IfOk, OnOk, IsTrue, Contains};
+ghost use Rattle.jl_logic.specs.Order.{RisesBy};
+ghost use Rattle.jl_config.specs.Collected.{Adds, Among, IsReading};
+ghost use Rattle.jl_config.specs.Imported.{IsGranted, IsExportedBy, IsExportedAt, exported_cmp, AreImports};
+ghost use Rattle.jl_config.specs.ReadRows.{AreReadings};
+ghost use Rattle.jl_config.specs.Refusals.{ReachesBy};
+
+use crate::readings::Reading;
+use crate::same_name::name_at;
+use crate::sights::Sights;
+use crate::site::Site;
+use crate::sorted::sorted_set;
+use jl_prim::{Copied, CopyEnd, Grant, Items, Name};
+use std::alloc::Global;
+
+/// A package that is exported to a reader, and the name of the module that exports it.
+#[derive(Debug, PartialEq, Eq, PartialOrd, Ord, Drop)]
+pub struct Exported {
+    pub package: Name,
+    pub exporter: Name,
+}
+
+/// The place of a reader, and what the modules that it reads export to it, in order. A module with the
+/// reader's name is left out.
+#[derive(Debug, Drop)]
+pub struct Imports {
+    pub reader: usize,
+    pub exported: Items<Exported>,
+}
+
+/// What each module of the set gets from other modules.
+pub fn imports_of(
+    alloc: Global,
+    sights: &Sights,
+    readings: &[Reading],
+) -> Result<Vec<Imports>, CopyEnd>
+    requires { AreReadings sights.now readings.now }
+    ensures { IfOk result (λ imports. AreImports sights.now imports.items) }
+{
+    let mut imports = Vec::with_capacity(alloc, readings.len())?;
+    for reading in readings {
+        let exported = exported_to(alloc, sights, reading)?;
+        imports.push(Imports {
+            reader: reading.reader,
+            exported: Items::from_vec(exported),
+        })?;
+    }
+    Ok(imports)
+}
+
+fn exported_to(alloc: Global, sights: &Sights, reading: &Reading) -> Result<Vec<Exported>, CopyEnd>
+    requires { IsReading sights.now reading.now }
+    ensures rise { IfOk result (λ exported. RisesBy exported_cmp exported.items) }
+    ensures only { IfOk result (λ exported. (e : Exported) → Contains exported.items e → Among (IsExportedAt sights.now reading.now.reader) reading.now.read e) }
+    ensures all { IfOk result (λ exported. (e : Exported) → Among (IsExportedAt sights.now reading.now.reader) reading.now.read e → Contains exported.items e) }
+{
+    let mut exported = Vec::new(alloc);
+    for place in reading.read.as_slice() {
+        push_exports_at(&mut exported, sights, reading.reader, *place)?;
+    }
+    let sorted = sorted_set(exported)?;
+    Ok(sorted)
+}
+
+fn push_exports_at(
+    exported: &mut Vec<Exported>,
+    sights: &Sights,
+    reader: usize,
+    place: usize,
+) -> Result<(), CopyEnd>
+    requires reader { reader < length sights.now.sites }
+    requires place { place < length sights.now.sites }
+    ensures { OnOk result (Adds exported.old.items exported.new.items (IsExportedAt sights.now reader place)) }
+{
+    let site = &sights.sites()[place];
+    let name = name_at(sights, reader);
+    if site.observed.declaration.name == *name {
+        return Ok(());
+    }
+    push_exports(exported, name, site)?;
+    Ok(())
+}
+
+fn push_exports(exported: &mut Vec<Exported>, reader: &Name, site: &Site) -> Result<(), CopyEnd>
+    ensures { OnOk result (Adds exported.old.items exported.new.items (IsExportedBy reader.now site.now)) }
+{
+    for grant in site.observed.declaration.exports.as_slice() {
+        push_grant(exported, reader, site, grant)?;
+    }
+    Ok(())
+}
+
+fn push_grant(
+    exported: &mut Vec<Exported>,
+    reader: &Name,
+    site: &Site,
+    grant: &Grant,
+) -> Result<(), CopyEnd>
+    ensures { OnOk result (Adds exported.old.items exported.new.items (IsGranted reader.now site.now grant.now)) }
+{
+    if !reaches(grant, reader) {
+        return Ok(());
+    }
+    exported.push(Exported {
+        package: grant.package.copy()?,
+        exporter: site.observed.declaration.name.copy()?,
+    })?;
+    Ok(())
+}
+
+/// Whether a grant is to all modules, or to the one with this name.
+pub fn reaches(grant: &Grant, reader: &Name) -> bool
+    ensures { IsTrue result ↔ ReachesBy grant.now.to reader.now }
+{
+    match &grant.to {
+        None => true,
+        Some(names) => names
+            .as_slice()
+            .iter()
+            .any(|name| name.as_bytes() == reader.as_bytes()),
+    }
+}

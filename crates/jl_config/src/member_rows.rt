@@ -1,0 +1,146 @@
+//! Which places bring in which, for the set.
+
+ghost use Rattle.std.specs.Prelude.{◌≡◌, ◌++◌, [], if◌then◌else◌, map, IfOk, OnOk};
+ghost use Rattle.std.specs.List.{filter_map, flat_map};
+ghost use Rattle.std.specs.Option.{option_to_list};
+ghost use Rattle.jl_config.specs.Members.{is_base, is_followed};
+ghost use Rattle.jl_config.specs.MemberRows.{found_place, needed_place, needed_places, listed, member_row, member_rows, member_starts, above_from};
+
+use crate::provisions::{found_place, providers_of};
+use crate::sights::Sights;
+use crate::site::Site;
+use indexmap::IndexMap;
+use jl_prim::{CopyEnd, Items, Name, Requires};
+use std::alloc::Global;
+
+/// Whether an entry is followed (JLS 7.7.1). That of `java.base` always is.
+pub fn follows(entry: &Requires) -> bool
+    ensures { result ≡ is_followed entry.now }
+{
+    !entry.is_static || entry.name.as_bytes() == b"java.base".as_slice()
+}
+
+/// For each place in sight the places that its module brings in.
+pub fn rows_of(alloc: Global, sights: &Sights) -> Result<Vec<Items<usize>>, CopyEnd>
+    ensures { IfOk result (λ rows. rows.items ≡ member_rows sights.now) }
+{
+    let table = providers_of(alloc, sights)?;
+    rows_by(alloc, sights, &table)
+}
+
+fn rows_by(
+    alloc: Global,
+    sights: &Sights,
+    table: &IndexMap<Name, Items<usize>>,
+) -> Result<Vec<Items<usize>>, CopyEnd>
+    ensures { IfOk result (λ rows. rows.items ≡ map (member_row sights.now (listed table.now)) sights.now.sites) }
+{
+    let mut rows = Vec::with_capacity(alloc, sights.sites().len())?;
+    for site in sights.sites() {
+        rows.push(row_of(alloc, sights, table, site)?)?;
+    }
+    Ok(rows)
+}
+
+fn row_of(
+    alloc: Global,
+    sights: &Sights,
+    table: &IndexMap<Name, Items<usize>>,
+    site: &Site,
+) -> Result<Items<usize>, CopyEnd>
+    ensures { IfOk result (λ row. row ≡ member_row sights.now (listed table.now) site.now) }
+{
+    let mut row = Vec::new(alloc);
+    push_needed(&mut row, sights, site)?;
+    for service in site.observed.declaration.uses.as_slice() {
+        push_listed(&mut row, table, service)?;
+    }
+    Ok(Items::from_vec(row))
+}
+
+fn push_needed(row: &mut Vec<usize>, sights: &Sights, site: &Site) -> Result<(), CopyEnd>
+    ensures { OnOk result (row.new.items ≡ row.old.items ++ needed_places sights.now site.now) }
+{
+    if !sights.is_here(site) {
+        return Ok(());
+    }
+    for entry in site.observed.declaration.required.as_slice() {
+        push_some(row, place_of_needed(sights, entry))?;
+    }
+    Ok(())
+}
+
+fn place_of_needed(sights: &Sights, entry: &Requires) -> Option<usize>
+    ensures { result ≡ needed_place sights.now entry.now }
+{
+    if follows(entry) {
+        found_place(sights, &entry.name)
+    } else {
+        None
+    }
+}
+
+/// Adds a place, where there is one.
+pub fn push_some(places: &mut Vec<usize>, place: Option<usize>) -> Result<(), CopyEnd>
+    ensures { OnOk result (places.new.items ≡ places.old.items ++ option_to_list place) }
+{
+    if let Some(place) = place {
+        places.push(place)?;
+    }
+    Ok(())
+}
+
+fn push_listed(
+    row: &mut Vec<usize>,
+    table: &IndexMap<Name, Items<usize>>,
+    service: &Name,
+) -> Result<(), CopyEnd>
+    ensures { OnOk result (row.new.items ≡ row.old.items ++ listed table.now service.now) }
+{
+    match table.get(service) {
+        None => Ok(()),
+        Some(places) => push_all(row, places.as_slice()),
+    }
+}
+
+fn push_all(row: &mut Vec<usize>, places: &[usize]) -> Result<(), CopyEnd>
+    ensures { OnOk result (row.new.items ≡ row.old.items ++ places.now) }
+{
+    for place in places {
+        row.push(*place)?;
+    }
+    Ok(())
+}
+
+/// The places with which the set begins: those of the roots, and with binding those of ancestors' modules.
+pub fn starts_of(alloc: Global, sights: &Sights) -> Result<Vec<usize>, CopyEnd>
+    ensures { IfOk result (λ starts. starts.items ≡ member_starts sights.now) }
+{
+    let mut starts = roots_found(alloc, sights)?;
+    push_above(&mut starts, sights)?;
+    Ok(starts)
+}
+
+fn roots_found(alloc: Global, sights: &Sights) -> Result<Vec<usize>, CopyEnd>
+    ensures { IfOk result (λ places. places.items ≡ filter_map (found_place sights.now) sights.now.roots) }
+{
+    let mut places = Vec::new(alloc);
+    for name in sights.roots() {
+        push_some(&mut places, found_place(sights, name))?;
+    }
+    Ok(places)
+}
+
+fn push_above(starts: &mut Vec<usize>, sights: &Sights) -> Result<(), CopyEnd>
+    ensures { OnOk result (starts.new.items ≡ starts.old.items ++ (if sights.now.binds then above_from sights.now 0 sights.now.sites else [])) }
+{
+    if !sights.binds() {
+        return Ok(());
+    }
+    for (at, site) in sights.sites().iter().enumerate() {
+        if !sights.is_here(site) {
+            starts.push(at)?;
+        }
+    }
+    Ok(())
+}

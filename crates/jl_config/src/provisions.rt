@@ -1,0 +1,137 @@
+//! Which modules provide which services (JLS 7.7.4).
+
+ghost use Rattle.std.specs.Prelude.{◌≡◌, ◌++◌, List, ℕ, false, nat_eq, IfOk, OnOk};
+ghost use Rattle.std.specs.Option.{option_to_list};
+ghost use Rattle.std.specs.Cmp.Lexicographic.{pointwise};
+ghost use Rattle.indexmap.specs.IndexMap.{get};
+ghost use Rattle.jl_logic.specs.Order.{is_text};
+ghost use Rattle.jl_config.specs.MemberRows.{found_place, here_at, is_place, provided_by, provisions_of, provisions_from, offers, for_service, providers, listed};
+
+use crate::sights::Sights;
+use crate::site::Site;
+use indexmap::IndexMap;
+use jl_prim::{Copied, CopyEnd, Items, Name, Provides};
+use std::alloc::Global;
+
+/// A service, and the place of a module that provides it.
+#[derive(Drop)]
+pub struct Provision {
+    pub service: Name,
+    pub place: usize,
+}
+
+/// The place where a name is located, if a finder observes the module.
+pub fn found_place(sights: &Sights, name: &Name) -> Option<usize>
+    ensures { result ≡ found_place sights.now name.now }
+{
+    let place = sights.named(name)?;
+    if is_here_at(sights, place) {
+        Some(place)
+    } else {
+        None
+    }
+}
+
+fn is_here_at(sights: &Sights, place: usize) -> bool
+    ensures { result ≡ here_at sights.now place }
+{
+    match sights.sites().get(place) {
+        Some(site) => sights.is_here(site),
+        None => false,
+    }
+}
+
+/// The services, and with binding for each the places of the modules that provide it.
+pub fn providers_of(alloc: Global, sights: &Sights) -> Result<IndexMap<Name, Items<usize>>, CopyEnd>
+    ensures { IfOk result (λ table. (service : List ℕ) → listed table service ≡ providers (offers sights.now) service) }
+{
+    let provisions = offers_of(alloc, sights)?;
+    table_of(alloc, provisions.as_slice())
+}
+
+fn table_of(
+    alloc: Global,
+    provisions: &[Provision],
+) -> Result<IndexMap<Name, Items<usize>>, CopyEnd>
+    ensures { IfOk result (λ table. (service : List ℕ) → listed table service ≡ providers provisions.now service) }
+{
+    let mut table = IndexMap::new(alloc);
+    for provision in provisions {
+        note_provider(alloc, &mut table, provision)?;
+    }
+    Ok(table)
+}
+
+fn offers_of(alloc: Global, sights: &Sights) -> Result<Vec<Provision>, CopyEnd>
+    ensures { IfOk result (λ all. all.items ≡ offers sights.now) }
+{
+    let mut all = Vec::new(alloc);
+    if !sights.binds() {
+        return Ok(all);
+    }
+    for (at, site) in sights.sites().iter().enumerate() {
+        push_provisions_of(&mut all, sights, at, site)?;
+    }
+    Ok(all)
+}
+
+fn push_provisions_of(
+    all: &mut Vec<Provision>,
+    sights: &Sights,
+    at: usize,
+    site: &Site,
+) -> Result<(), CopyEnd>
+    ensures { OnOk result (all.new.items ≡ all.old.items ++ provisions_of sights.now at site.now) }
+{
+    let declaration = &site.observed.declaration;
+    if is_that(at, found_place(sights, &declaration.name)) {
+        push_provisions(all, at, declaration.provides.as_slice())?;
+    }
+    Ok(())
+}
+
+fn is_that(at: usize, place: Option<usize>) -> bool
+    ensures { result ≡ is_place at place }
+{
+    match place {
+        None => false,
+        Some(place) => place == at,
+    }
+}
+
+fn push_provisions(
+    all: &mut Vec<Provision>,
+    place: usize,
+    entries: &[Provides],
+) -> Result<(), CopyEnd>
+    ensures { OnOk result (all.new.items ≡ all.old.items ++ provided_by place entries.now) }
+{
+    for entry in entries {
+        let service = entry.service.copy()?;
+        all.push(Provision { service, place })?;
+    }
+    Ok(())
+}
+
+fn note_provider(
+    alloc: Global,
+    table: &mut IndexMap<Name, Items<usize>>,
+    provision: &Provision,
+) -> Result<(), CopyEnd>
+    ensures { OnOk result ((q : List ℕ) → listed table.new q ≡ listed table.old q ++ option_to_list (for_service q provision.now)) }
+{
+    let mut places = taken(alloc, table, &provision.service).into_vec();
+    places.push(provision.place)?;
+    table.insert(provision.service.copy()?, Items::from_vec(places))?;
+    Ok(())
+}
+
+fn taken(alloc: Global, table: &mut IndexMap<Name, Items<usize>>, service: &Name) -> Items<usize>
+    ensures places { result ≡ listed table.old service.now }
+    ensures others { (q : List ℕ) → is_text service.now q ≡ false → get (pointwise nat_eq) table.new q ≡ get (pointwise nat_eq) table.old q }
+{
+    match table.swap_remove(service) {
+        Some(places) => places,
+        None => Items::new(alloc),
+    }
+}

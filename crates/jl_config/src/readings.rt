@@ -1,0 +1,224 @@
+//! What each module of the set reads.
+
+ghost use Rattle.std.specs.Prelude.{◌≡◌, ◌<◌, ◌++◌, length, IfOk, OnOk, Some, false, slice_get, slice_index_or};
+ghost use Rattle.jl_config.specs.Members.{is_passed_on};
+ghost use Rattle.jl_config.specs.Places.{AreMarks, AreMembers};
+ghost use Rattle.std.specs.List.{filter_map};
+ghost use Rattle.std.specs.Option.{option_to_list};
+ghost use Rattle.jl_closure.specs.Reached.{AreMarksOf};
+ghost use Rattle.jl_config.specs.ReadRows.{is_open, open_place, meant_place, required_places, passed_place, passed_places, read_rows, read_starts, marked_place, AreByName, AreReadings};
+
+use crate::members::Members;
+use crate::sights::Sights;
+use crate::site::Site;
+use crate::sorted::sorted_set;
+use jl_closure::closure;
+use jl_prim::{Copied, CopyEnd, Items, Name, Requires};
+use std::alloc::Global;
+
+/// What a module of the set reads: the reader's place in sight, and the places of what it reads, in the
+/// order of the names there and then of the places.
+#[derive(Debug, Drop)]
+pub struct Reading {
+    pub reader: usize,
+    pub read: Items<usize>,
+}
+
+/// The name of a module, and its place.
+#[derive(Debug, PartialEq, Eq, PartialOrd, Ord, Drop)]
+pub struct Placed {
+    pub name: Name,
+    pub place: usize,
+}
+
+/// What each module of the set reads, in the order of the readers' names (JLS 7.7.1).
+pub fn readings_of(
+    alloc: Global,
+    sights: &Sights,
+    members: &Members,
+) -> Result<Vec<Reading>, CopyEnd>
+    requires marks { AreMarks sights.now members.now.marks.items }
+    requires places { AreMembers sights.now members.now.places.items }
+    ensures { IfOk result (λ readings. AreReadings sights.now readings.items) }
+{
+    let marks = members.marks.as_slice();
+    let next = rows_of(alloc, sights, marks)?;
+    let order = places_by_name(alloc, sights)?;
+    let mut readings = Vec::with_capacity(alloc, members.places.len())?;
+    for place in members.places.as_slice() {
+        let reached = marks_of_reader(alloc, sights, marks, next.as_slice(), *place)?;
+        let read = marked_places(alloc, order.as_slice(), reached.as_slice())?;
+        readings.push(Reading {
+            reader: *place,
+            read: Items::from_vec(read),
+        })?;
+    }
+    Ok(readings)
+}
+
+fn is_passed_on(entry: &Requires) -> bool
+    ensures { result ≡ is_passed_on entry.now }
+{
+    entry.transitive && entry.name.as_bytes() != b"java.base".as_slice()
+}
+
+fn is_marked(marks: &[bool], place: usize) -> bool
+    ensures { result ≡ slice_index_or marks.now place false }
+{
+    match marks.get(place) {
+        None => false,
+        Some(mark) => *mark,
+    }
+}
+
+fn place_if_marked(marks: &[bool], placed: &Placed) -> Option<usize>
+    ensures { result ≡ marked_place marks.now placed.now }
+{
+    if is_marked(marks, placed.place) {
+        Some(placed.place)
+    } else {
+        None
+    }
+}
+
+fn push_some(places: &mut Vec<usize>, place: Option<usize>) -> Result<(), CopyEnd>
+    ensures { OnOk result (places.new.items ≡ places.old.items ++ option_to_list place) }
+{
+    if let Some(place) = place {
+        places.push(place)?;
+    }
+    Ok(())
+}
+
+/// Whether the module at a place is an ancestor's or marked.
+fn is_open(sights: &Sights, marks: &[bool], place: usize) -> bool
+    ensures { result ≡ is_open sights.now marks.now place }
+{
+    match sights.sites().get(place) {
+        None => false,
+        Some(site) => !sights.is_here(site) || is_marked(marks, place),
+    }
+}
+
+fn place_if_open(sights: &Sights, marks: &[bool], place: Option<usize>) -> Option<usize>
+    ensures { result ≡ open_place sights.now marks.now place }
+{
+    match place {
+        None => None,
+        Some(place) => {
+            if is_open(sights, marks, place) {
+                Some(place)
+            } else {
+                None
+            }
+        }
+    }
+}
+
+/// The place of the module that a name means to a module.
+fn place_meant(sights: &Sights, marks: &[bool], site: &Site, name: &Name) -> Option<usize>
+    ensures { result ≡ meant_place sights.now marks.now site.now name.now }
+{
+    if sights.is_here(site) {
+        place_if_open(sights, marks, sights.named(name))
+    } else {
+        sights.own(site, name)
+    }
+}
+
+fn place_passed_on(sights: &Sights, marks: &[bool], site: &Site, entry: &Requires) -> Option<usize>
+    ensures { result ≡ passed_place sights.now marks.now site.now entry.now }
+{
+    if is_passed_on(entry) {
+        place_meant(sights, marks, site, &entry.name)
+    } else {
+        None
+    }
+}
+
+/// The places of what a module requires.
+fn places_required(
+    alloc: Global,
+    sights: &Sights,
+    marks: &[bool],
+    site: &Site,
+) -> Result<Vec<usize>, CopyEnd>
+    ensures { IfOk result (λ places. places.items ≡ required_places sights.now marks.now site.now) }
+{
+    let mut places = Vec::new(alloc);
+    for entry in site.observed.declaration.required.as_slice() {
+        push_some(&mut places, place_meant(sights, marks, site, &entry.name))?;
+    }
+    Ok(places)
+}
+
+/// The places of what a module requires transitively.
+fn places_passed_on(
+    alloc: Global,
+    sights: &Sights,
+    marks: &[bool],
+    site: &Site,
+) -> Result<Vec<usize>, CopyEnd>
+    ensures { IfOk result (λ places. places.items ≡ passed_places sights.now marks.now site.now) }
+{
+    let mut places = Vec::new(alloc);
+    for entry in site.observed.declaration.required.as_slice() {
+        push_some(&mut places, place_passed_on(sights, marks, site, entry))?;
+    }
+    Ok(places)
+}
+
+/// For each place in sight the places of what the module there passes on.
+fn rows_of(alloc: Global, sights: &Sights, marks: &[bool]) -> Result<Vec<Items<usize>>, CopyEnd>
+    ensures { IfOk result (λ rows. rows.items ≡ read_rows sights.now marks.now) }
+{
+    let sites = sights.sites();
+    let mut rows = Vec::with_capacity(alloc, sites.len())?;
+    for site in sites {
+        rows.push(Items::from_vec(places_passed_on(alloc, sights, marks, site)?))?;
+    }
+    Ok(rows)
+}
+
+/// Marks what the module at a place reads, itself too. What follows a module is what it passes on.
+fn marks_of_reader(
+    alloc: Global,
+    sights: &Sights,
+    marks: &[bool],
+    next: &[Items<usize>],
+    place: usize,
+) -> Result<Vec<bool>, CopyEnd>
+    requires rows { next.now ≡ read_rows sights.now marks.now }
+    requires within { place < length sights.now.sites }
+    ensures { IfOk result (λ reached. (a : Site) → slice_get sights.now.sites place ≡ Some a → AreMarksOf (read_rows sights.now marks.now) (read_starts sights.now marks.now a place) reached.items) }
+{
+    let mut starts = places_required(alloc, sights, marks, &sights.sites()[place])?;
+    starts.push(place)?;
+    Ok(closure(alloc, next, starts.as_slice())?)
+}
+
+/// All places in sight, in the order of the names there and then of the places.
+fn places_by_name(alloc: Global, sights: &Sights) -> Result<Vec<Placed>, CopyEnd>
+    ensures { IfOk result (λ order. AreByName sights.now order.items) }
+{
+    let mut order = Vec::with_capacity(alloc, sights.sites().len())?;
+    for (place, site) in sights.sites().iter().enumerate() {
+        order.push(Placed {
+            name: site.observed.declaration.name.copy()?,
+            place,
+        })?;
+    }
+    let sorted = sorted_set(order)?;
+    Ok(sorted)
+}
+
+/// The places whose marks are set, in order.
+fn marked_places(alloc: Global, order: &[Placed], marks: &[bool]) -> Result<Vec<usize>, CopyEnd>
+    ensures { IfOk result (λ places. places.items ≡ filter_map (marked_place marks.now) order.now) }
+{
+    let mut places = Vec::new(alloc);
+    for placed in order {
+        push_some(&mut places, place_if_marked(marks, placed))?;
+    }
+    Ok(places)
+}

@@ -1,0 +1,96 @@
+//! Modules that read two of one name.
+
+ghost use Rattle.std.specs.Prelude.{◌≡◌, ◌<◌, length, IfOk, OnOk};
+ghost use Rattle.std.specs.Option.{option_map};
+ghost use Rattle.jl_config.specs.Collected.{same_name_fault, Adds, IsReading, IsSharedAt, IsShared};
+ghost use Rattle.jl_config.specs.Places.{IsLeastSome, SameNameFault};
+ghost use Rattle.jl_config.specs.ReadRows.{name_at, AreReadings};
+ghost use Rattle.jl_config.specs.Refusals.{fault_cmp};
+
+use crate::fault::ResolveFault;
+use crate::readings::Reading;
+use crate::sights::Sights;
+use crate::sorted::least_of;
+use jl_prim::{Copied, CopyEnd, Name};
+use std::alloc::Global;
+
+/// A module reads two modules of one name.
+#[derive(Debug, PartialEq, Eq, PartialOrd, Ord, Drop)]
+pub struct SharedName {
+    pub reader: Name,
+    pub name: Name,
+}
+
+/// The least reader of two modules of one name, with the least such name.
+pub fn least_same_name(
+    alloc: Global,
+    sights: &Sights,
+    readings: &[Reading],
+) -> Result<Option<ResolveFault>, CopyEnd>
+    requires { AreReadings sights.now readings.now }
+    ensures { IfOk result (λ found. IsLeastSome fault_cmp (SameNameFault sights.now) found) }
+{
+    let mut shared = Vec::new(alloc);
+    for reading in readings {
+        push_shared(&mut shared, sights, reading)?;
+    }
+    Ok(fault_of(least_of(shared)))
+}
+
+fn fault_of(shared: Option<SharedName>) -> Option<ResolveFault>
+    ensures { result ≡ option_map same_name_fault shared }
+{
+    match shared {
+        None => None,
+        Some(shared) => Some(ResolveFault::SameName {
+            reader: shared.reader,
+            name: shared.name,
+        }),
+    }
+}
+
+/// Modules of one name stand side by side in a reading.
+fn push_shared(
+    shared: &mut Vec<SharedName>,
+    sights: &Sights,
+    reading: &Reading,
+) -> Result<(), CopyEnd>
+    requires { IsReading sights.now reading.now }
+    ensures { OnOk result (Adds shared.old.items shared.new.items (IsShared sights.now reading.now)) }
+{
+    for at in 1..reading.read.len() {
+        push_shared_at(shared, sights, reading, at)?;
+    }
+    Ok(())
+}
+
+fn push_shared_at(
+    shared: &mut Vec<SharedName>,
+    sights: &Sights,
+    reading: &Reading,
+    at: usize,
+) -> Result<(), CopyEnd>
+    requires reading { IsReading sights.now reading.now }
+    requires later { 0 < at }
+    requires within { at < length reading.now.read }
+    ensures { OnOk result (Adds shared.old.items shared.new.items (IsSharedAt sights.now reading.now at)) }
+{
+    let read = reading.read.as_slice();
+    let name = name_at(sights, read[at]);
+    if name_at(sights, read[at - 1]) != name {
+        return Ok(());
+    }
+    shared.push(SharedName {
+        reader: name_at(sights, reading.reader).copy()?,
+        name: name.copy()?,
+    })?;
+    Ok(())
+}
+
+/// The name of the module at a place in sight.
+pub fn name_at(sights: &Sights, place: usize) -> &Name
+    requires { place < length sights.now.sites }
+    ensures { result.now ≡ name_at sights.now place }
+{
+    &sights.sites()[place].observed.declaration.name
+}

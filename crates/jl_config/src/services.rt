@@ -1,0 +1,165 @@
+//! Services whose packages are not read.
+
+ghost use Rattle.std.specs.Prelude.{◌≡◌, ◌↔◌, ◌⊎◌, IfOk, OnOk, IsTrue, Contains};
+ghost use Rattle.std.specs.Option.{option_map};
+ghost use Rattle.jl_logic.specs.Order.{name_cmp, RisesBy};
+ghost use Rattle.jl_config.specs.Collected.{Adds, Among};
+ghost use Rattle.jl_config.specs.Imported.{AreImports, IsImport, IsImported, IsOwnExport, AreOwn, IsUnseen, IsUnseenProvided, IsUnseenIn, exported_cmp, service_fault};
+ghost use Rattle.jl_config.specs.Places.{IsLeastSome, SameNameFault, ServiceFault};
+ghost use Rattle.jl_config.specs.Refusals.{fault_cmp};
+ghost use Rattle.jl_config.specs.declared.fault.ResolveFault.{ResolveFault};
+
+use crate::fault::ResolveFault;
+use crate::imports::{Exported, Imports, reaches};
+use crate::sights::Sights;
+use crate::site::Site;
+use crate::sorted::{has_name, least_of, sorted_names};
+use jl_names::package_of;
+use jl_prim::{Copied, CopyEnd, Grant, Name};
+use std::alloc::Global;
+
+/// A module uses or provides a service whose package it neither has nor gets.
+#[derive(Debug, PartialEq, Eq, PartialOrd, Ord, Drop)]
+pub struct UnseenService {
+    pub module: Name,
+    pub service: Name,
+}
+
+/// The least module that uses or provides a service whose package it neither has nor gets, with the least
+/// such service, where no module reads two of one name.
+pub fn least_service(
+    alloc: Global,
+    sights: &Sights,
+    imports: &[Imports],
+) -> Result<Option<ResolveFault>, CopyEnd>
+    requires imports { AreImports sights.now imports.now }
+    requires apart { (f : ResolveFault) → SameNameFault sights.now f → ⊥ }
+    ensures { IfOk result (λ found. IsLeastSome fault_cmp (ServiceFault sights.now) found) }
+{
+    let mut unseen = Vec::new(alloc);
+    for imported in imports {
+        push_unseen_in(&mut unseen, sights, imported)?;
+    }
+    Ok(fault_of(least_of(unseen)))
+}
+
+fn fault_of(unseen: Option<UnseenService>) -> Option<ResolveFault>
+    ensures { result ≡ option_map service_fault unseen }
+{
+    match unseen {
+        None => None,
+        Some(unseen) => Some(ResolveFault::ServicePackage {
+            module: unseen.module,
+            service: unseen.service,
+        }),
+    }
+}
+
+fn push_unseen_in(
+    unseen: &mut Vec<UnseenService>,
+    sights: &Sights,
+    imports: &Imports,
+) -> Result<(), CopyEnd>
+    requires { IsImport sights.now imports.now }
+    ensures { OnOk result (Adds unseen.old.items unseen.new.items (IsUnseenIn sights.now imports.now)) }
+{
+    let site = &sights.sites()[imports.reader];
+    let own = own_packages(site)?;
+    let exported = imports.exported.as_slice();
+    push_unseen_uses(unseen, site, own.as_slice(), exported)?;
+    push_unseen_provides(unseen, site, own.as_slice(), exported)?;
+    Ok(())
+}
+
+fn push_unseen_uses(
+    unseen: &mut Vec<UnseenService>,
+    site: &Site,
+    own: &[Name],
+    exported: &[Exported],
+) -> Result<(), CopyEnd>
+    requires own { AreOwn site.now own.now }
+    requires exported { RisesBy exported_cmp exported.now }
+    ensures { OnOk result (Adds unseen.old.items unseen.new.items (Among (IsUnseen site.now exported.now) site.now.observed.declaration.uses)) }
+{
+    for service in site.observed.declaration.uses.as_slice() {
+        push_unseen(unseen, site, own, exported, service)?;
+    }
+    Ok(())
+}
+
+fn push_unseen_provides(
+    unseen: &mut Vec<UnseenService>,
+    site: &Site,
+    own: &[Name],
+    exported: &[Exported],
+) -> Result<(), CopyEnd>
+    requires own { AreOwn site.now own.now }
+    requires exported { RisesBy exported_cmp exported.now }
+    ensures { OnOk result (Adds unseen.old.items unseen.new.items (Among (IsUnseenProvided site.now exported.now) site.now.observed.declaration.provides)) }
+{
+    for provided in site.observed.declaration.provides.as_slice() {
+        push_unseen(unseen, site, own, exported, &provided.service)?;
+    }
+    Ok(())
+}
+
+fn push_unseen(
+    unseen: &mut Vec<UnseenService>,
+    site: &Site,
+    own: &[Name],
+    exported: &[Exported],
+    service: &Name,
+) -> Result<(), CopyEnd>
+    requires own { AreOwn site.now own.now }
+    requires exported { RisesBy exported_cmp exported.now }
+    ensures { OnOk result (Adds unseen.old.items unseen.new.items (IsUnseen site.now exported.now service.now)) }
+{
+    if sees(own, exported, package_of(service.as_bytes())) {
+        return Ok(());
+    }
+    unseen.push(UnseenService {
+        module: site.observed.declaration.name.copy()?,
+        service: service.copy()?,
+    })?;
+    Ok(())
+}
+
+/// Whether a package is one of those that a module has or exports to itself, or one that it gets.
+fn sees(own: &[Name], exported: &[Exported], name: &[u8]) -> bool
+    requires own { RisesBy name_cmp own.now }
+    requires exported { RisesBy exported_cmp exported.now }
+    ensures { IsTrue result ↔ Contains own.now name.now ⊎ IsImported exported.now name.now }
+{
+    has_name(own, name) || is_imported(exported, name)
+}
+
+/// The packages that a module has or exports to itself, in order.
+fn own_packages(site: &Site) -> Result<Vec<Name>, CopyEnd>
+    ensures { IfOk result (λ own. AreOwn site.now own.items) }
+{
+    let mut own = site.observed.declaration.packages.copy()?.into_vec();
+    for grant in site.observed.declaration.exports.as_slice() {
+        push_own_export(&mut own, site, grant)?;
+    }
+    let sorted = sorted_names(own)?;
+    Ok(sorted)
+}
+
+fn push_own_export(own: &mut Vec<Name>, site: &Site, grant: &Grant) -> Result<(), CopyEnd>
+    ensures { OnOk result (Adds own.old.items own.new.items (IsOwnExport site.now grant.now)) }
+{
+    if !reaches(grant, &site.observed.declaration.name) {
+        return Ok(());
+    }
+    own.push(grant.package.copy()?)?;
+    Ok(())
+}
+
+fn is_imported(exported: &[Exported], name: &[u8]) -> bool
+    requires { RisesBy exported_cmp exported.now }
+    ensures { IsTrue result ↔ IsImported exported.now name.now }
+{
+    exported
+        .binary_search_by(|e| e.package.as_bytes().cmp(name))
+        .is_ok()
+}
