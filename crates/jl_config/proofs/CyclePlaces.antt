@@ -144,13 +144,12 @@ module _ (w : Scene) (marks : List Bool) (right : AreMarks w marks) where
       ⊎_elim
       (λ k.
       let same : p ≡ q = cc k.1 in
-      let at : slice_get w.sites q ≡ Some u.0 = subst (λ (n : ℕ). slice_get w.sites n ≡ Some u.0) same u.1 in
-      (
+      let at : slice_get w.sites q ≡ Some u.0 = subst (λ (n : ℕ). slice_get w.sites n ≡ Some u.0) same u.1 in (
         subst (Contains (p ∷ ps)) same (contains_head p ps),
         subst (λ (n : ℕ). Rounds Rows n) same k.0,
         λ r t s c att ats round less.
-        let us : u.0 ≡ s = same_item u.0 s (slice_get w.sites q) at ats in
-        ⊎_elim
+            let us : u.0 ≡ s = same_item u.0 s (slice_get w.sites q) at ats in
+            ⊎_elim
             (λ e.
             let tu : t ≡ u.0 = same_item t u.0 (slice_get w.sites p) (subst (λ (n : ℕ). slice_get w.sites n ≡ Some t) (sym e) att) u.1 in
             let itself : site_cmp s s ≡ Less = subst (λ (v : Site). site_cmp v s ≡ Less) (tu ∙ us) less in
@@ -162,12 +161,11 @@ module _ (w : Scene) (marks : List Bool) (right : AreMarks w marks) where
             (contains_cases p r ps c),
       ))
       (λ k.
-      let more = first_shows ps (λ r c. stand r (contains_tail p r ps c)) rise.1 q k.1 in
-      (
+      let more = first_shows ps (λ r c. stand r (contains_tail p r ps c)) rise.1 q k.1 in (
         contains_tail p q ps more.0,
         more.1,
         λ r t s c att ats round less.
-        ⊎_elim (λ e. k.0 (subst (λ (n : ℕ). Rounds Rows n) (sym e) round)) (λ m. more.2 r t s m att ats round less) (contains_cases p r ps c),
+            ⊎_elim (λ e. k.0 (subst (λ (n : ℕ). Rounds Rows n) (sym e) round)) (λ m. more.2 r t s m att ats round less) (contains_cases p r ps c),
       ))
       h
 

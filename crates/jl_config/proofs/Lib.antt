@@ -1,4 +1,5 @@
 pub mod CyclePlaces
+pub mod Decided
 pub mod FaultOrders
 pub mod MemberChains
 pub mod MemberFinds

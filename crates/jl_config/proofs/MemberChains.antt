@@ -440,9 +440,9 @@ module _ (w : Scene) where
         let r = reached_member p (marks.only p c.0) in
         let same : r.0 ≡ s = same_item r.0 s (slice_get w.sites p) r.1 at in
         ⊎_elim
-            (λ above. absurd (true≢false (sym c.1 ∙ subst (λ (u : Site). is_here w u ≡ false) same above)))
-            (λ k. let f : FoundAt w p s = subst (FoundAt w p) same k.0 in (subst (IsMember w) same k.1, f.first))
-            r.2;
+        (λ above. absurd (true≢false (sym c.1 ∙ subst (λ (u : Site). is_here w u ≡ false) same above)))
+        (λ k. let f : FoundAt w p s = subst (FoundAt w p) same k.0 in (subst (IsMember w) same k.1, f.first))
+        r.2;
     all = λ p s at m first.
         let r = member_reached s m in
         let f : FoundAt w r.0 s = r.1 in

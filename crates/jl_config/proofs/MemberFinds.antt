@@ -86,8 +86,7 @@ found_shows w name p e = by (place_named name w.sites) refl e
         let r = site_at name w.sites q f in
         let same : q ≡ p = cc in
         let named : site_name r.0 ≡ name = named_so name w.sites r.0 r.2 in
-        let here : is_here w r.0 ≡ true = sym (here_is w q r.0 r.1) ∙ h in
-        (
+        let here : is_here w r.0 ≡ true = sym (here_is w q r.0 r.1) ∙ h in (
           r.0,
           record {
             at = subst (λ (k : ℕ). slice_get w.sites k ≡ Some r.0) same r.1;

@@ -1,5 +1,5 @@
 -- First places in lists of modules, and what ancestors have.
-use Rattle.std.proofs.Common.{◌≡◌, ◌<◌, ◌+◌, ℕ, zero, suc, List, [], ◌∷◌, ◌++◌, length, take, drop, get_or, slice_get, refl, sym, ◌∙◌, ap, subst, Option, Some, None, Bool, true, false, cond, option_map, flat_map, append_assoc, arith, add-one, nat_eq}
+use Rattle.std.proofs.Common.{◌≡◌, ◌<◌, ◌+◌, ℕ, zero, suc, List, [], ◌∷◌, ◌++◌, length, take, drop, get_or, slice_get, refl, sym, ◌∙◌, ap, subst, Option, Some, None, Bool, true, false, cond, ◌&&◌, option_map, flat_map, append_assoc, arith, add-one, nat_eq}
 use Rattle.std.proofs.lemmas.Grind.{common_steps}
 use Rattle.std.proofs.lemmas.List.{append-nil, take_more, take_all}
 use Rattle.std.specs.Cmp.Lexicographic.{pointwise}
@@ -35,6 +35,43 @@ module _ {X : Type 0} (f : X → Bool) where
           → cond b (Some 0) (option_map (λ p. p + 1) (first_where f (xs ++ x ∷ []))) ≡ or_at (cond b (Some 0) (option_map (λ p. p + 1) (first_where f xs))) (f x) (suc (length xs))
       by true e = refl
       by false e = ap (option_map (λ p. p + 1)) e ∙ or_at_next (first_where f xs) (f x) (length xs)
+
+-- ---- the first of a configuration and a name
+
+abbrev pub own_test : ConfigId → List ℕ → Site → Bool
+own_test config name s = is_numbered s.config config && is_text (site_name s) name
+
+pub first_own : (config : ConfigId) (name : List ℕ) (ss : List Site) → place_of_site config name ss ≡ first_where (own_test config name) ss
+first_own config name [] = refl
+first_own config name (s ∷ ss) = ap (λ (o : Option ℕ). cond (own_test config name s) (Some 0) (option_map (λ p. p + 1) o)) (first_own config name ss)
+
+first_here : (test : Site → Bool) (ss : List Site) (i : ℕ) (s : Site) → i < length ss → get_or ss i s ≡ s → test s ≡ true → first_where test (take i ss) ≡ None → first_where test ss ≡ Some i
+first_here test [] i s lt at e none = absurd (omega arith)
+first_here test (w ∷ ss) zero s lt at e none =
+    let here : test w ≡ true = ap test at ∙ e in
+    ap (λ (b : Bool). cond b (Some 0) (option_map (λ p. p + 1) (first_where test ss))) here
+first_here test (w ∷ ss) (suc i) s lt at e none = by (test w) (λ f. first_here test ss i s (omega arith) at e f) none
+  where
+    rest_none : (o : Option ℕ) → option_map (λ p. p + 1) o ≡ None → o ≡ None
+    rest_none None f = refl
+    rest_none (Some p) f = absurd cc
+
+    by : (b : Bool) → (first_where test (take i ss) ≡ None → first_where test ss ≡ Some i) → cond b (Some 0) (option_map (λ p. p + 1) (first_where test (take i ss))) ≡ None
+        → cond b (Some 0) (option_map (λ p. p + 1) (first_where test ss)) ≡ Some (suc i)
+    by true more f = absurd cc
+    by false more f = ap (option_map (λ p. p + 1)) (more (rest_none (first_where test (take i ss)) f)) ∙ ap Some (add-one i)
+
+-- the module at i is the one, and none before it is
+pub own_here : (config : ConfigId) (name : List ℕ) (ss : List Site) (i : ℕ) (s : Site) → i < length ss → s ≡ get_or ss i s → place_of_site config name (take i ss) ≡ None → own_test config name s ≡ true → Some i ≡ place_of_site config name ss
+own_here config name ss i s lt is none e =
+    sym (first_own config name ss ∙ first_here (own_test config name) ss i s lt (sym is) e (sym (first_own config name (take i ss)) ∙ none))
+
+-- nor is it the one
+pub own_further : (config : ConfigId) (name : List ℕ) (ss : List Site) (i : ℕ) (s : Site) → i < length ss → s ≡ get_or ss i s → place_of_site config name (take i ss) ≡ None → own_test config name s ≡ false → place_of_site config name (take (i + 1) ss) ≡ None
+own_further config name ss i s lt is none e =
+    let more : take (i + 1) ss ≡ take i ss ++ s ∷ [] = take_more ss i s lt ∙ ap (λ (w : Site). take i ss ++ w ∷ []) (sym is) in
+    ap (place_of_site config name) more ∙ first_own config name (take i ss ++ s ∷ []) ∙ first_pushed (own_test config name) (take i ss) s
+    ∙ ap (λ (o : Option ℕ). or_at o (own_test config name s) (length (take i ss))) (sym (first_own config name (take i ss)) ∙ none) ∙ ap (λ (b : Bool). or_at None b (length (take i ss))) e
 
 -- one more module, for the first places of a name
 pub first_of_more : (ss : List Site) (i : ℕ) (s : Site) (name : List ℕ) (old new : Option ℕ) → i < length ss → s ≡ get_or ss i s

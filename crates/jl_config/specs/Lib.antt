@@ -15,3 +15,4 @@ pub mod Rounds
 pub mod ReadRows
 pub mod Collected
 pub mod Imported
+pub mod Settled

@@ -1,10 +1,11 @@
 //! What is in sight of a resolution.
 
-ghost use Rattle.std.specs.Prelude.{◌≡◌, ◌≤◌, ℕ, List, length, nat_eq, IfOk};
+ghost use Rattle.std.specs.Prelude.{◌≡◌, ◌≤◌, ℕ, List, length, nat_eq, IfOk, ◌&&◌};
 ghost use Rattle.std.specs.Option.{option_copied};
 ghost use Rattle.std.specs.Cmp.Lexicographic.{pointwise};
 ghost use Rattle.indexmap.specs.IndexMap.{get};
-ghost use Rattle.jl_config.specs.Located.{scene_of, is_here, find_read};
+ghost use Rattle.jl_config.specs.Located.{scene_of, is_here, is_numbered, site_name, find_read};
+ghost use Rattle.jl_logic.specs.Order.{is_text};
 ghost use Rattle.jl_config.specs.Places.{place_named, place_of_site, own_place};
 ghost use Rattle.jl_config.specs.Resolves.{asked};
 
@@ -164,9 +165,15 @@ fn place_of(sites: &[Site], config: ConfigId, name: &Name) -> Option<usize>
     ensures { result ≡ place_of_site config name.now sites.now }
 {
     for (at, site) in sites.iter().enumerate() {
-        if site.config.0 == config.0 && site.observed.declaration.name == *name {
+        if is_site(site, config, name) {
             return Some(at);
         }
     }
     None
+}
+
+fn is_site(site: &Site, config: ConfigId, name: &Name) -> bool
+    ensures { result ≡ (is_numbered site.now.config config && is_text (site_name site.now) name.now) }
+{
+    site.config.0 == config.0 && site.observed.declaration.name == *name
 }
