@@ -1,5 +1,5 @@
 -- A launch has one end and one text.
-use Rattle.std.proofs.Common.{◌≡◌, ◌≢◌, ℕ, List, [], ◌∷◌, sym, ◌∙◌, ap, subst, Result, Ok, Err}
+use Rattle.std.proofs.Common.{◌≡◌, ◌≢◌, ℕ, List, sym, ◌∙◌, ap, subst, Result, Ok, Err}
 use Rattle.std.specs.List.{concat}
 use Rattle.jl_prim.specs.declared.declaration.Observed.{Observed}
 use Rattle.jl_tree.specs.Files.{File}
@@ -10,11 +10,10 @@ use Rattle.jl_config.specs.Laws.{ResolvesOnce}
 use Rattle.jl_finder.specs.Observed.{observed}
 use Rattle.jl_finder.specs.declared.fault.FindFault.{FindFault}
 use Rattle.jl_words.specs.declared.fault.WordFault.{WordFault}
-use Rattle.jl_launch.specs.declared.end.Refusal.{Refusal}
 use Rattle.jl_launch.specs.declared.end.LaunchEnd.{LaunchEnd}
 use Rattle.jl_launch.specs.declared.words.Asked.{Asked}
 use Rattle.jl_launch.specs.Words.{words_of}
-use Rattle.jl_launch.specs.Launched.{IsRefused, IsPrinted, IsResolved, IsAnswer, boot}
+use Rattle.jl_launch.specs.Launched.{IsPrinted, IsResolved, IsAnswer, boot}
 use Rattle.jl_launch.specs.Unique.{LaunchesOnce}
 
 same_printed : (a : Result Graph ResolveFault) (e f : LaunchEnd) (ls ms : List (List ℕ)) → IsPrinted a e ls → IsPrinted a f ms → (e ≡ f) × (ls ≡ ms)

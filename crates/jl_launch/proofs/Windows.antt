@@ -1,6 +1,5 @@
 -- The part of a rising list that has a key, found by two searches.
-use Rattle.std.proofs.Common.{◌≡◌, ◌≢◌, ℕ, zero, suc, ◌+◌, ◌-◌, ◌≤◌, ◌<◌, List, [], ◌∷◌, length, get_or, take, drop, filter, map, ◌++◌, append_assoc, Bool, true, false, not, ◌&&◌, if◌then◌else◌, Ordering, Less, Equal, Greater, refl, sym, ◌∙◌, ap, subst, inl, inr, ⊎_elim, ◌⊎◌, arith}
-use Rattle.std.specs.List.{AllByRecursion, AllWithin}
+use Rattle.std.proofs.Common.{◌≡◌, ℕ, zero, suc, ◌+◌, ◌-◌, ◌≤◌, ◌<◌, List, [], ◌∷◌, length, get_or, take, drop, filter, map, ◌++◌, append_assoc, Bool, true, false, not, ◌&&◌, if◌then◌else◌, Ordering, Less, Equal, Greater, refl, sym, ◌∙◌, ap, inl, inr, arith}
 use Rattle.std.specs.Cmp.{IsTotalOrder}
 use Rattle.std.specs.Ordering.{is_lt, is_le, is_eq, ordering_then, ordering_reverse}
 use Rattle.std.specs.Cmp.Lexicographic.{texts_ties}

@@ -143,7 +143,7 @@ fn refused_rows<'a>() -> [(&'a str, &'a str, &'a str); 15] {
             "3 refused: Resolve SamePackage r p.q b c\n",
         ),
         (
-            "m/r r b;m/r/p/T.class;m/b b !p #p",
+            "m/r r b #p;m/r/p/T.class;m/b b !p #p",
             "resolve --module-path m r",
             "3 refused: Resolve OwnPackage r p b\n",
         ),
