@@ -1,5 +1,6 @@
 -- The rows of the table of instructions (JVMS 6.5), by groups of opcodes.
-use Rattle.std.specs.Prelude.{ℕ, zero, suc, ◌+◌, List, [], ◌∷◌, Option, None, Some, Bool, not, ◌&&◌, ◌||◌, ◌==◌, nat_le, if◌then◌else◌}
+use Rattle.std.specs.Prelude.{ℕ, zero, suc, ◌+◌, ◌<◌, ⊤, List, [], ◌∷◌, Option, None, Some, Bool, not, ◌&&◌, ◌||◌, ◌==◌, nat_le, if◌then◌else◌}
+use Rattle.std.specs.List.{AllByRecursion}
 use Rattle.jl_optable.specs.declared.form.Operands.{Operands}
 use Rattle.jl_optable.specs.declared.form.Operands.TheVariants as kinds
 use Rattle.jl_optable.specs.declared.form.Form.{Form}
@@ -52,6 +53,14 @@ rows_from (suc n) op = if has_row op then row_of op ∷ rows_from n (op + 1) els
 -- all rows, in the order of their opcodes
 unfoldable pub table : List Form
 table = rows_from 256 0
+
+-- each opcode is lower than all after it
+abbrev pub Rise : List Form → Type 0
+Rise [] = ⊤
+Rise (row ∷ rows) = AllByRecursion (λ (later : Form). row.op < later.op) rows × Rise rows
+
+abbrev pub opcode : Form → ℕ
+opcode row = row.op
 
 -- the first row with an opcode
 unfoldable pub first_with : ℕ → List Form → Option Form

@@ -1,7 +1,8 @@
 //! The table itself, and the search for a row.
 
-ghost use Rattle.std.specs.Prelude.{◌≡◌, length};
-ghost use Rattle.jl_optable.specs.Rows.{form_of, first_with, table};
+ghost use Rattle.std.specs.Prelude.{◌≡◌, length, map};
+ghost use Rattle.jl_logic.specs.Lists.{AreDistinct};
+ghost use Rattle.jl_optable.specs.Rows.{form_of, first_with, table, Rise, opcode};
 
 use crate::form::{Form, Operands};
 use std::marker::Model;
@@ -60,6 +61,9 @@ macro_rules! rows {
 pub fn op_table() -> OpTable<199>
     ensures rows { result ≡ table }
     ensures count { length result ≡ 199 }
+    // The opcodes rise, and none is there twice.
+    ensures order { Rise result }
+    ensures once { AreDistinct (map opcode result) }
 {
     static ROWS: [Form; 199] = rows! {
         false Nothing: 0 1 2 3 4 5 6 7 8 9 10;
