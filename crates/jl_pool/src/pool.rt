@@ -32,6 +32,13 @@ impl Pool {
         Pool { entries }
     }
 
+    /// The entries in order, the unused one of index 0 first.
+    pub fn entries(&self) -> &[Entry]
+        ensures { result.now ≡ self.now }
+    {
+        self.entries.as_slice()
+    }
+
     /// The tag of the entry at an index (JVMS 4.4, table 4.4-A).
     pub fn tag(&self, i: u16) -> Option<u8>
         ensures { result ≡ tag_of self.now i }
