@@ -1,1 +1,4 @@
 pub mod BytesLaws
+pub mod IndexLaws
+pub mod PartLaws
+pub mod WholeLaws

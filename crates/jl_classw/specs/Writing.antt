@@ -1,5 +1,5 @@
 -- The file that is written for a class (JVMS 4.1): each name by the least right index, and no attributes but ConstantValue, Code and StackMapTable.
-use Rattle.std.specs.Prelude.{◌≡◌, ℕ, zero, suc, ◌<◌, List, [], ◌∷◌, ◌++◌, length, map, Option, None, Some, Bool, false, codes, ⊤, if◌then◌else◌}
+use Rattle.std.specs.Prelude.{ℕ, zero, suc, ◌<◌, List, [], ◌∷◌, ◌++◌, length, map, Option, None, Some, Bool, false, codes, ⊤, if◌then◌else◌}
 use Rattle.std.specs.List.{flat_map, AllByRecursion}
 use Rattle.std.specs.Option.{option_map_or}
 use Rattle.jl_logic.specs.Order.{is_text}
@@ -12,7 +12,7 @@ use Rattle.jl_class.specs.declared.member.FieldDecl.{FieldDecl}
 use Rattle.jl_class.specs.declared.member.MethodDecl.{MethodDecl}
 use Rattle.jl_class.specs.Classes.{Class}
 use Rattle.jl_class.specs.Meaning.{paired_text, class_named}
-use Rattle.jl_class.specs.Spelling.{Attribute, Member, Parts, counted, measured, member_bytes, handler_bytes, code_bytes, CodeFits}
+use Rattle.jl_class.specs.Spelling.{Attribute, Member, Parts, counted, member_bytes, code_bytes, CodeFits}
 
 -- ---- indices
 

@@ -66,11 +66,7 @@ fn push_constant(
     }
 }
 
-fn push_constant_value(
-    bytes: &mut Vec<u8>,
-    places: &Places,
-    index: u16,
-) -> Result<(), WriteFault>
+fn push_constant_value(bytes: &mut Vec<u8>, places: &Places, index: u16) -> Result<(), WriteFault>
     ensures bytes { OnOk result (bytes.new.items ≡ bytes.old.items ++ (two 1 ++ attribute_bytes (constant_attribute places.now index))) }
     ensures memory { IsOkUnless result WriteFault.NoMemory }
 {

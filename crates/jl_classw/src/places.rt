@@ -186,12 +186,6 @@ fn or_this(found: Option<u16>, is_right: bool, index: u16) -> Option<u16>
 {
     match found {
         Some(before) => Some(before),
-        None => {
-            if is_right {
-                Some(index)
-            } else {
-                None
-            }
-        }
+        None => { if is_right { Some(index) } else { None } }
     }
 }
