@@ -1,0 +1,227 @@
+//! Making a class part by part.
+
+ghost use Rattle.std.specs.Prelude.{◌≡◌, ◌<◌, ◌++◌, [], ◌∷◌, length, map, OnOk, OnErr, IfOk, IsTrue, IsOkUnless, ◌⊎◌};
+ghost use Rattle.std.specs.Option.{option_copied};
+ghost use Rattle.jl_logic.specs.Answers.{Gives};
+ghost use Rattle.jl_class.specs.Meaning.{field_key, method_key, is_member_among};
+ghost use Rattle.jl_classw.specs.Faults.{told};
+ghost use Rattle.jl_classw.specs.Building.{new_class, with_entry, with_interface, with_field, with_method};
+
+use crate::entering::{enter_class, enter_new};
+use crate::entry::{Constant, NewEntry};
+use crate::fault::{WriteFault, too_many};
+use crate::needs::{enter_code, enter_name, enter_optional, enter_super};
+use jl_class::{ClassDecl, CodeBytes, FieldDecl, MethodDecl};
+use jl_pool::{Entry, Pool};
+use jl_prim::{Copied, Items, Name};
+use std::alloc::Global;
+use std::marker::Model;
+
+/// The most interfaces, fields and methods that a class has, each (JVMS 4.1).
+const MOST_ROWS: usize = 65535;
+
+/// A class that is being made, which contracts see as the class that it is so far. Its minor version is 0,
+/// and its pool has each entry once.
+#[derive(Drop)]
+pub struct ClassBuilder {
+    alloc: Global,
+    major: u16,
+    flags: u16,
+    name: Name,
+    super_name: Option<Name>,
+    interfaces: Vec<Name>,
+    fields: Vec<FieldDecl>,
+    methods: Vec<MethodDecl>,
+    entries: Vec<Entry>,
+}
+
+impl Model for ClassBuilder {
+    ghost use Rattle.std.specs.Prelude.{◌<◌, length};
+    ghost use Rattle.jl_class.specs.Classes.{Class};
+
+    ghost Value = { Class };
+
+    ghost view = { λ b. record { major = b.major; minor = 0; flags = b.flags; name = b.name; super_name = b.super_name; interfaces = b.interfaces.items; fields = b.fields.items; methods = b.methods.items; pool = b.entries.items } };
+
+    ghost invariant = { λ b. length b.entries.items < 65536 };
+}
+
+impl ClassBuilder {
+    /// A class with no members.
+    #[tactic(auto, unfolding(crate::specs::Building::new_class))]
+    pub fn new(
+        alloc: Global,
+        major: u16,
+        flags: u16,
+        this: &Name,
+        super_name: Option<&Name>,
+    ) -> Result<ClassBuilder, WriteFault>
+        ensures { Gives told (λ b. b) result (new_class major flags this.now (option_copied super_name.entry)) }
+    {
+        let mut first = Vec::new(alloc);
+        first.push(Entry::Unused)?;
+        let (added, _) = enter_class(&first, Vec::new(alloc), this)?;
+        let (added, _) = enter_super(&first, added, super_name)?;
+        Ok(ClassBuilder {
+            alloc,
+            major,
+            flags,
+            name: this.copy()?,
+            super_name: copied(super_name)?,
+            interfaces: Vec::new(alloc),
+            fields: Vec::new(alloc),
+            methods: Vec::new(alloc),
+            entries: appended(first, added)?,
+        })
+    }
+
+    /// Enters an entry behind those that it needs, and answers its index. What is there already is not
+    /// entered again, and keeps its index.
+    #[tactic(auto, unfolding(crate::specs::Building::with_entry))]
+    pub fn entry(&mut self, entry: NewEntry) -> Result<u16, WriteFault>
+        ensures exact { Gives told (λ i. (self.new, i)) result (with_entry self.old entry) }
+        ensures err { OnErr result (self.new ≡ self.old) }
+    {
+        let (mut added, index) = enter_new(&self.entries, Vec::new(self.alloc), entry)?;
+        self.entries.append(&mut added)?;
+        Ok(index)
+    }
+
+    /// Names one more interface.
+    #[tactic(auto, unfolding(crate::specs::Building::with_interface))]
+    pub fn interface(&mut self, name: &Name) -> Result<(), WriteFault>
+        ensures exact { Gives told (λ _. self.new) result (with_interface self.old name.now) }
+        ensures err { OnErr result (self.new ≡ self.old) }
+    {
+        if self.interfaces.len() >= MOST_ROWS {
+            return too_many(self.alloc, "interfaces");
+        }
+        let (added, _) = enter_class(&self.entries, Vec::new(self.alloc), name)?;
+        put(&mut self.entries, added, &mut self.interfaces, name.copy()?)
+    }
+
+    /// Adds a field.
+    #[tactic(auto, unfolding(crate::specs::Building::with_field))]
+    pub fn field(
+        &mut self,
+        flags: u16,
+        name: &Name,
+        desc: &Name,
+        constant: Option<Constant>,
+    ) -> Result<(), WriteFault>
+        ensures exact { Gives told (λ _. self.new) result (with_field self.old flags name.now desc.now constant) }
+        ensures err { OnErr result (self.new ≡ self.old) }
+    {
+        if self.fields.len() >= MOST_ROWS {
+            return too_many(self.alloc, "fields");
+        }
+        let added = enter_name(&self.entries, Vec::new(self.alloc), name)?;
+        let added = enter_name(&self.entries, added, desc)?;
+        let (added, constant) = enter_optional(&self.entries, added, constant)?;
+        let field = FieldDecl {
+            flags,
+            name: name.copy()?,
+            desc: desc.copy()?,
+            constant,
+        };
+        put(&mut self.entries, added, &mut self.fields, field)
+    }
+
+    /// Adds a method.
+    #[tactic(auto, unfolding(crate::specs::Building::with_method))]
+    pub fn method(
+        &mut self,
+        flags: u16,
+        name: &Name,
+        desc: &Name,
+        code: Option<CodeBytes>,
+    ) -> Result<(), WriteFault>
+        ensures exact { Gives told (λ _. self.new) result (with_method self.old flags name.now desc.now code) }
+        ensures err { OnErr result (self.new ≡ self.old) }
+    {
+        if self.methods.len() >= MOST_ROWS {
+            return too_many(self.alloc, "methods");
+        }
+        let added = enter_name(&self.entries, Vec::new(self.alloc), name)?;
+        let added = enter_name(&self.entries, added, desc)?;
+        let added = enter_code(&self.entries, added, &code)?;
+        let method = MethodDecl {
+            flags,
+            name: name.copy()?,
+            desc: desc.copy()?,
+            code,
+        };
+        put(&mut self.entries, added, &mut self.methods, method)
+    }
+
+    /// The class.
+    pub fn finish(self) -> ClassDecl
+        ensures { result ≡ self }
+    {
+        let ClassBuilder {
+            major,
+            flags,
+            name,
+            super_name,
+            interfaces,
+            fields,
+            methods,
+            entries,
+            ..
+        } = self;
+        ClassDecl::from_parts(
+            (major, 0),
+            flags,
+            name,
+            super_name,
+            Items::from_vec(interfaces),
+            Items::from_vec(fields),
+            Items::from_vec(methods),
+            Pool::from_entries(entries),
+        )
+    }
+}
+
+fn copied(name: Option<&Name>) -> Result<Option<Name>, WriteFault>
+    ensures same { IfOk result (λ it. it ≡ option_copied name.entry) }
+    ensures memory { IsOkUnless result WriteFault.NoMemory }
+{
+    match name {
+        Some(name) => Ok(Some(name.copy()?)),
+        None => Ok(None),
+    }
+}
+
+fn appended(first: Vec<Entry>, added: Vec<Entry>) -> Result<Vec<Entry>, WriteFault>
+    ensures items { IfOk result (λ all. all.items ≡ first.items ++ added.items) }
+    ensures memory { IsOkUnless result WriteFault.NoMemory }
+{
+    let mut all = first;
+    let mut rest = added;
+    all.append(&mut rest)?;
+    Ok(all)
+}
+
+/// Puts entries behind a pool, and a row behind its table. Without memory both stay as they are.
+fn put<T: Drop>(
+    entries: &mut Vec<Entry>,
+    added: Vec<Entry>,
+    rows: &mut Vec<T>,
+    row: T,
+) -> Result<(), WriteFault>
+    ensures entries { OnOk result (entries.new.items ≡ entries.old.items ++ added.items) }
+    ensures rows { OnOk result (rows.new.items ≡ rows.old.items ++ row ∷ []) }
+    ensures same_entries { OnErr result (entries.new.items ≡ entries.old.items) }
+    ensures same_rows { OnErr result (rows.new.items ≡ rows.old.items) }
+    ensures memory { IsOkUnless result WriteFault.NoMemory }
+{
+    let mut rest = added;
+    rows.push(row)?;
+    match entries.append(&mut rest) {
+        Ok(()) => Ok(()),
+        Err(_) => {
+            rows.pop();
+            Err(WriteFault::NoMemory)
+        }
+    }
+}

@@ -1,0 +1,122 @@
+//! What members need in the pool.
+
+ghost use Rattle.std.specs.Prelude.{◌≡◌, ◌<◌, ◌++◌, List, length, IfOk};
+ghost use Rattle.std.specs.Option.{option_copied};
+ghost use Rattle.jl_logic.specs.Answers.{Gives};
+ghost use Rattle.jl_classw.specs.Faults.{told};
+ghost use Rattle.jl_classw.specs.Building.{super_entered, some_constant_entered, optional_entered, attribute_entered, frames_entered, some_code_entered, code_entered};
+
+use crate::entering::{enter_class, enter_constant, enter_text};
+use crate::entry::Constant;
+use crate::fault::WriteFault;
+use jl_class::CodeBytes;
+use jl_pool::Entry;
+use jl_prim::{Items, Name};
+
+/// Enters a superclass where there is one.
+pub fn enter_super(
+    pool: &[Entry],
+    added: Vec<Entry>,
+    name: Option<&Name>,
+) -> Result<(Vec<Entry>, u16), WriteFault>
+    requires { length (pool.now ++ added.items) < 65536 }
+    ensures exact { Gives told (λ x. (pool.now ++ x.0.items, x.1)) result (super_entered (pool.now ++ added.items) (option_copied name.entry)) }
+    ensures few { IfOk result (λ x. length (pool.now ++ x.0.items) < 65536) }
+{
+    match name {
+        Some(name) => enter_class(pool, added, name),
+        None => Ok((added, 0)),
+    }
+}
+
+/// Enters the constant of a field, behind the name of its attribute (JVMS 4.7.2), and answers its index.
+pub fn enter_optional(
+    pool: &[Entry],
+    added: Vec<Entry>,
+    constant: Option<Constant>,
+) -> Result<(Vec<Entry>, Option<u16>), WriteFault>
+    requires { length (pool.now ++ added.items) < 65536 }
+    ensures exact { Gives told (λ x. (pool.now ++ x.0.items, x.1)) result (optional_entered (pool.now ++ added.items) constant) }
+    ensures few { IfOk result (λ x. length (pool.now ++ x.0.items) < 65536) }
+{
+    match constant {
+        Some(constant) => enter_some(pool, added, constant),
+        None => Ok((added, None)),
+    }
+}
+
+#[tactic(auto, unfolding(crate::specs::Building::some_constant_entered))]
+fn enter_some(
+    pool: &[Entry],
+    added: Vec<Entry>,
+    constant: Constant,
+) -> Result<(Vec<Entry>, Option<u16>), WriteFault>
+    requires { length (pool.now ++ added.items) < 65536 }
+    ensures exact { Gives told (λ x. (pool.now ++ x.0.items, x.1)) result (some_constant_entered (pool.now ++ added.items) constant) }
+    ensures few { IfOk result (λ x. length (pool.now ++ x.0.items) < 65536) }
+{
+    let attribute = Name::from_text(*added.allocator(), "ConstantValue")?;
+    let (added, _) = enter_text(pool, added, &attribute)?;
+    let (added, index) = enter_constant(pool, added, constant)?;
+    Ok((added, Some(index)))
+}
+
+/// Enters a text whose index is not asked for.
+#[tactic(auto, unfolding(crate::specs::Building::attribute_entered))]
+pub fn enter_name(pool: &[Entry], added: Vec<Entry>, name: &Name) -> Result<Vec<Entry>, WriteFault>
+    requires { length (pool.now ++ added.items) < 65536 }
+    ensures exact { Gives told (λ after. pool.now ++ after.items) result (attribute_entered (pool.now ++ added.items) name.now) }
+    ensures few { IfOk result (λ after. length (pool.now ++ after.items) < 65536) }
+{
+    let (added, _) = enter_text(pool, added, name)?;
+    Ok(added)
+}
+
+/// Enters the names of the attributes that a method has (JVMS 4.7.3, 4.7.4).
+pub fn enter_code(
+    pool: &[Entry],
+    added: Vec<Entry>,
+    code: &Option<CodeBytes>,
+) -> Result<Vec<Entry>, WriteFault>
+    requires { length (pool.now ++ added.items) < 65536 }
+    ensures exact { Gives told (λ after. pool.now ++ after.items) result (code_entered (pool.now ++ added.items) code.now) }
+    ensures few { IfOk result (λ after. length (pool.now ++ after.items) < 65536) }
+{
+    match code {
+        Some(code) => enter_some_code(pool, added, code),
+        None => Ok(added),
+    }
+}
+
+#[tactic(auto, unfolding(crate::specs::Building::some_code_entered))]
+fn enter_some_code(
+    pool: &[Entry],
+    added: Vec<Entry>,
+    code: &CodeBytes,
+) -> Result<Vec<Entry>, WriteFault>
+    requires { length (pool.now ++ added.items) < 65536 }
+    ensures exact { Gives told (λ after. pool.now ++ after.items) result (some_code_entered (pool.now ++ added.items) code.now) }
+    ensures few { IfOk result (λ after. length (pool.now ++ after.items) < 65536) }
+{
+    let name = Name::from_text(*added.allocator(), "Code")?;
+    let added = enter_name(pool, added, &name)?;
+    enter_frames(pool, added, &code.frames)
+}
+
+fn enter_frames(
+    pool: &[Entry],
+    added: Vec<Entry>,
+    frames: &Option<Items<u8>>,
+) -> Result<Vec<Entry>, WriteFault>
+    requires { length (pool.now ++ added.items) < 65536 }
+    ensures exact { Gives told (λ after. pool.now ++ after.items) result (frames_entered (pool.now ++ added.items) frames.now) }
+    ensures few { IfOk result (λ after. length (pool.now ++ after.items) < 65536) }
+{
+    match frames {
+        Some(_) => {
+            let name = Name::from_text(*added.allocator(), "StackMapTable")?;
+            enter_name(pool, added, &name)
+        }
+        None => Ok(added),
+    }
+}
