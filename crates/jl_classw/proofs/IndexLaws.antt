@@ -136,10 +136,10 @@ super_is pool i name e = elim (cases_Bool (i == 0)) [
     named_class None e = absurd cc
     named_class (Some text) e = cc
 
-is_super : (pool : List Entry) (i : ℕ) (name : List ℕ) → i == 0 ≡ false → class_named pool i ≡ Some name → super_named pool i ≡ Some (Some name)
+pub is_super : (pool : List Entry) (i : ℕ) (name : List ℕ) → i == 0 ≡ false → class_named pool i ≡ Some name → super_named pool i ≡ Some (Some name)
 is_super pool i name f e = rw f (rw e refl)
 
-not_first : (es : List Entry) (i : ℕ) (name : List ℕ) → class_named (entries.Unused ∷ es) i ≡ Some name → i == 0 ≡ false
+pub not_first : (es : List Entry) (i : ℕ) (name : List ℕ) → class_named (entries.Unused ∷ es) i ≡ Some name → i == 0 ≡ false
 not_first es zero name e = absurd cc
 not_first es (suc i) name e = ne_eqb (suc i) 0 (λ same. omega arith)
 

@@ -3,3 +3,8 @@ pub mod IndexLaws
 pub mod PartLaws
 pub mod WholeLaws
 pub mod PositionLaws
+pub mod PoolGrowth
+pub mod DeclaresGrowth
+pub mod EnteredLaws
+pub mod DistinctLaws
+pub mod BuiltLaws

@@ -21,15 +21,15 @@ use Rattle.jl_classw.proofs.IndexLaws.{text_is, text_place, attribute_place}
 -- ---- the attributes with a name
 
 -- an attribute with a name that is read, and this content
-record Named (pool : List Entry) (is_read : List ℕ → Bool) (content : List ℕ) (a : Attribute) : Type 0 where
+pub record Named (pool : List Entry) (is_read : List ℕ → Bool) (content : List ℕ) (a : Attribute) : Type 0 where
   pub is : a.content ≡ content
   pub named : is_some_named is_read (text_of pool a.index) ≡ true
   pub fits : AttributeFits pool a
 
-kept_contents : (pool : List Entry) (is_read : List ℕ → Bool) (a : Attribute) (others : List Attribute) → is_some_named is_read (text_of pool a.index) ≡ true → contents pool is_read (a ∷ others) ≡ a.content ∷ contents pool is_read others
+pub kept_contents : (pool : List Entry) (is_read : List ℕ → Bool) (a : Attribute) (others : List Attribute) → is_some_named is_read (text_of pool a.index) ≡ true → contents pool is_read (a ∷ others) ≡ a.content ∷ contents pool is_read others
 kept_contents pool is_read a others t = rw t refl
 
-passed_contents : (pool : List Entry) (is_read : List ℕ → Bool) (a : Attribute) (others : List Attribute) → is_some_named is_read (text_of pool a.index) ≡ false → contents pool is_read (a ∷ others) ≡ contents pool is_read others
+pub passed_contents : (pool : List Entry) (is_read : List ℕ → Bool) (a : Attribute) (others : List Attribute) → is_some_named is_read (text_of pool a.index) ≡ false → contents pool is_read (a ∷ others) ≡ contents pool is_read others
 passed_contents pool is_read a others f = rw f refl
 
 first_is : {A : Type 0} (x y : A) (xs ys : List A) → x ∷ xs ≡ y ∷ ys → x ≡ y
@@ -69,7 +69,7 @@ few_optional one None = omega arith
 few_optional one (Some v) = omega arith
 
 -- the length of a Code attribute's content
-code_length : (c : CodeBytes) (others : List Attribute) → length (code_bytes c others) ≡ 12 + length c.code + length (flat_map handler_bytes c.handlers) + length (flat_map attribute_bytes others)
+pub code_length : (c : CodeBytes) (others : List Attribute) → length (code_bytes c others) ≡ 12 + length c.code + length (flat_map handler_bytes c.handlers) + length (flat_map attribute_bytes others)
 code_length c others =
     let q = counted attribute_bytes others in
     let r = counted handler_bytes c.handlers ++ q in

@@ -1,10 +1,14 @@
 //! Making a class part by part.
 
-ghost use Rattle.std.specs.Prelude.{◌≡◌, ◌<◌, ◌++◌, [], ◌∷◌, length, map, OnOk, OnErr, IfOk, IsTrue, IsOkUnless, ◌⊎◌};
+ghost use Rattle.std.specs.Prelude.{◌≡◌, ◌<◌, ◌++◌, [], ◌∷◌, length, ℕ, List, false, is_some, map, OnOk, OnErr, IfOk, IsTrue, IsOkUnless, ◌⊎◌};
 ghost use Rattle.std.specs.Option.{option_copied};
 ghost use Rattle.jl_logic.specs.Answers.{Gives};
-ghost use Rattle.jl_class.specs.Meaning.{field_key, method_key, is_member_among};
+ghost use Rattle.jl_names.specs.Names.{names_a_class, names_a_field};
+ghost use Rattle.jl_pool.specs.Builder.{IsShort};
+ghost use Rattle.jl_class.specs.Meaning.{field_key, method_key, is_member_among, are_class_flags, are_field_flags, are_method_flags, is_interface, may_extend, names_method_with, describes_a_field, describes_method_with, has_code};
+ghost use Rattle.jl_class.specs.Spelling.{IsClass};
 ghost use Rattle.jl_classw.specs.Faults.{told};
+ghost use Rattle.jl_classw.specs.Built.{IsSuper, IsShortEntry, MayHave, IsSmall};
 ghost use Rattle.jl_classw.specs.Building.{new_class, with_entry, with_interface, with_field, with_method};
 
 use crate::entering::{enter_class, enter_new};
@@ -38,12 +42,13 @@ pub struct ClassBuilder {
 impl Model for ClassBuilder {
     ghost use Rattle.std.specs.Prelude.{◌<◌, length};
     ghost use Rattle.jl_class.specs.Classes.{Class};
+    ghost use Rattle.jl_classw.specs.Built.{IsBuilt};
 
     ghost Value = { Class };
 
     ghost view = { λ b. record { major = b.major; minor = 0; flags = b.flags; name = b.name; super_name = b.super_name; interfaces = b.interfaces.items; fields = b.fields.items; methods = b.methods.items; pool = b.entries.items } };
 
-    ghost invariant = { λ b. length b.entries.items < 65536 };
+    ghost invariant = { λ b. (length b.entries.items < 65536) × IsBuilt (record { major = b.major; minor = 0; flags = b.flags; name = b.name; super_name = b.super_name; interfaces = b.interfaces.items; fields = b.fields.items; methods = b.methods.items; pool = b.entries.items }) };
 }
 
 impl ClassBuilder {
@@ -56,6 +61,12 @@ impl ClassBuilder {
         this: &Name,
         super_name: Option<&Name>,
     ) -> Result<ClassBuilder, WriteFault>
+        requires version { (major ≡ 53) ⊎ (major ≡ 54) }
+        requires flags { IsTrue (are_class_flags flags) }
+        requires name { IsTrue (names_a_class this.now) }
+        requires short { IsShort this.now }
+        requires superclass { IsSuper (option_copied super_name) }
+        requires extends { IsTrue (may_extend flags this.now (option_copied super_name)) }
         ensures { Gives told (λ b. b) result (new_class major flags this.now (option_copied super_name.entry)) }
     {
         let mut first = Vec::new(alloc);
@@ -79,6 +90,7 @@ impl ClassBuilder {
     /// entered again, and keeps its index.
     #[tactic(auto, unfolding(crate::specs::Building::with_entry))]
     pub fn entry(&mut self, entry: NewEntry) -> Result<u16, WriteFault>
+        requires { IsShortEntry entry }
         ensures exact { Gives told (λ i. (self.new, i)) result (with_entry self.old entry) }
         ensures err { OnErr result (self.new ≡ self.old) }
     {
@@ -90,6 +102,8 @@ impl ClassBuilder {
     /// Names one more interface.
     #[tactic(auto, unfolding(crate::specs::Building::with_interface))]
     pub fn interface(&mut self, name: &Name) -> Result<(), WriteFault>
+        requires name { IsTrue (names_a_class name.now) }
+        requires short { IsShort name.now }
         ensures exact { Gives told (λ _. self.new) result (with_interface self.old name.now) }
         ensures err { OnErr result (self.new ≡ self.old) }
     {
@@ -97,7 +111,9 @@ impl ClassBuilder {
             return too_many(self.alloc, "interfaces");
         }
         let (added, _) = enter_class(&self.entries, Vec::new(self.alloc), name)?;
-        put(&mut self.entries, added, &mut self.interfaces, name.copy()?)
+        let row = name.copy()?;
+        put(&mut self.entries, added, &mut self.interfaces, row)?;
+        Ok(())
     }
 
     /// Adds a field.
@@ -109,6 +125,12 @@ impl ClassBuilder {
         desc: &Name,
         constant: Option<Constant>,
     ) -> Result<(), WriteFault>
+        requires flags { IsTrue (are_field_flags (is_interface self.old.flags) flags) }
+        requires name { IsTrue (names_a_field name.now) }
+        requires desc { IsTrue (describes_a_field desc.now) }
+        requires short { IsShort name.now × IsShort desc.now }
+        requires fresh { is_member_among (record { name = name.now; desc = desc.now }) (map field_key self.old.fields) ≡ false }
+        requires constant { MayHave flags desc.now constant }
         ensures exact { Gives told (λ _. self.new) result (with_field self.old flags name.now desc.now constant) }
         ensures err { OnErr result (self.new ≡ self.old) }
     {
@@ -124,7 +146,8 @@ impl ClassBuilder {
             desc: desc.copy()?,
             constant,
         };
-        put(&mut self.entries, added, &mut self.fields, field)
+        put(&mut self.entries, added, &mut self.fields, field)?;
+        Ok(())
     }
 
     /// Adds a method.
@@ -136,6 +159,13 @@ impl ClassBuilder {
         desc: &Name,
         code: Option<CodeBytes>,
     ) -> Result<(), WriteFault>
+        requires flags { IsTrue (are_method_flags flags) }
+        requires name { IsTrue (names_method_with flags name.now) }
+        requires desc { IsTrue (describes_method_with name.now desc.now) }
+        requires short { IsShort name.now × IsShort desc.now }
+        requires fresh { is_member_among (record { name = name.now; desc = desc.now }) (map method_key self.old.methods) ≡ false }
+        requires has { is_some code ≡ has_code flags }
+        requires small { IsSmall code }
         ensures exact { Gives told (λ _. self.new) result (with_method self.old flags name.now desc.now code) }
         ensures err { OnErr result (self.new ≡ self.old) }
     {
@@ -151,12 +181,15 @@ impl ClassBuilder {
             desc: desc.copy()?,
             code,
         };
-        put(&mut self.entries, added, &mut self.methods, method)
+        put(&mut self.entries, added, &mut self.methods, method)?;
+        Ok(())
     }
 
     /// The class.
     pub fn finish(self) -> ClassDecl
-        ensures { result ≡ self }
+        ensures same { result ≡ self }
+        // Some file declares it.
+        ensures declared { (bytes : List ℕ) × IsClass bytes result }
     {
         let ClassBuilder {
             major,

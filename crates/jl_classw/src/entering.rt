@@ -2,11 +2,12 @@
 //!
 //! The pool itself stays as it is: what it lacks is collected in `added`, to be put behind it.
 
-ghost use Rattle.std.specs.Prelude.{◌≡◌, ◌<◌, ◌++◌, List, length, position, IfOk, IfSome, IsOkUnless, codes};
+ghost use Rattle.std.specs.Prelude.{◌≡◌, ◌<◌, ◌++◌, List, length, position, IfOk, IfSome, IsOkUnless, IsUtf8, codes};
 ghost use Rattle.jl_logic.specs.Answers.{Gives};
 ghost use Rattle.jl_names.specs.Utf16.{utf16};
 ghost use Rattle.jl_pool.specs.declared.entry.Entry.TheVariants as entries;
 ghost use Rattle.jl_classw.specs.Faults.{told};
+ghost use Rattle.jl_classw.specs.Built.{IsFit, IsSound};
 ghost use Rattle.jl_classw.specs.Building as building;
 ghost use Rattle.jl_classw.specs.Building.{spaced, at_end, entered, text_entered, class_entered, string_entered, name_and_type_entered, member_entered, constant_entered, new_entered};
 
@@ -122,6 +123,7 @@ pub fn enter_text(
     requires { length (pool.now ++ added.items) < 65536 }
     ensures exact { Gives told (λ x. (pool.now ++ x.0.items, x.1)) result (text_entered (pool.now ++ added.items) text.now) }
     ensures few { IfOk result (λ x. length (pool.now ++ x.0.items) < 65536) }
+    ensures utf8 { IfOk result (λ _. IsUtf8 text.now) }
 {
     let entry = text_entry(*added.allocator(), text)?;
     enter(pool, added, entry)
@@ -130,6 +132,7 @@ pub fn enter_text(
 fn text_entry(alloc: Global, text: &Name) -> Result<Entry, WriteFault>
     ensures entry { IfOk result (λ e. e ≡ entries.Utf8 (utf16 text.now)) }
     ensures memory { IsOkUnless result WriteFault.NoMemory }
+    ensures utf8 { IfOk result (λ _. IsUtf8 text.now) }
 {
     let name = text.copy()?;
     let units = utf16_of(alloc, name.as_str())?;
@@ -146,6 +149,7 @@ pub fn enter_class(
     requires { length (pool.now ++ added.items) < 65536 }
     ensures exact { Gives told (λ x. (pool.now ++ x.0.items, x.1)) result (class_entered (pool.now ++ added.items) name.now) }
     ensures few { IfOk result (λ x. length (pool.now ++ x.0.items) < 65536) }
+    ensures utf8 { IfOk result (λ _. IsUtf8 name.now) }
 {
     let (added, text) = enter_text(pool, added, name)?;
     enter(pool, added, Entry::Class(text))
@@ -178,6 +182,7 @@ fn enter_name_and_type(
     requires { length (pool.now ++ added.items) < 65536 }
     ensures exact { Gives told (λ x. (pool.now ++ x.0.items, x.1)) result (name_and_type_entered (pool.now ++ added.items) name.now desc.now) }
     ensures few { IfOk result (λ x. length (pool.now ++ x.0.items) < 65536) }
+    ensures utf8 { IfOk result (λ _. IsUtf8 name.now × IsUtf8 desc.now) }
 {
     let (added, first) = enter_text(pool, added, name)?;
     let (added, second) = enter_text(pool, added, desc)?;
@@ -197,6 +202,7 @@ fn enter_member(
     requires { length (pool.now ++ added.items) < 65536 }
     ensures exact { Gives told (λ x. (pool.now ++ x.0.items, x.1)) result (member_entered (pool.now ++ added.items) kind class.now name.now desc.now) }
     ensures few { IfOk result (λ x. length (pool.now ++ x.0.items) < 65536) }
+    ensures utf8 { IfOk result (λ _. IsUtf8 class.now × IsUtf8 name.now × IsUtf8 desc.now) }
 {
     let (added, owner) = enter_class(pool, added, class)?;
     let (added, member) = enter_name_and_type(pool, added, name, desc)?;
@@ -221,6 +227,7 @@ pub fn enter_constant(
 ) -> Result<(Vec<Entry>, u16), WriteFault>
     requires { length (pool.now ++ added.items) < 65536 }
     ensures exact { Gives told (λ x. (pool.now ++ x.0.items, x.1)) result (constant_entered (pool.now ++ added.items) constant) }
+    ensures fit { IfOk result (λ _. IsFit constant) }
     ensures few { IfOk result (λ x. length (pool.now ++ x.0.items) < 65536) }
 {
     match constant {
@@ -238,6 +245,7 @@ pub fn enter_new(
 ) -> Result<(Vec<Entry>, u16), WriteFault>
     requires { length (pool.now ++ added.items) < 65536 }
     ensures exact { Gives told (λ x. (pool.now ++ x.0.items, x.1)) result (new_entered (pool.now ++ added.items) entry) }
+    ensures sound { IfOk result (λ _. IsSound entry) }
     ensures few { IfOk result (λ x. length (pool.now ++ x.0.items) < 65536) }
 {
     match entry {

@@ -1,9 +1,12 @@
 //! What members need in the pool.
 
-ghost use Rattle.std.specs.Prelude.{◌≡◌, ◌<◌, ◌++◌, List, length, IfOk};
+ghost use Rattle.std.specs.Prelude.{◌≡◌, ◌<◌, ◌++◌, List, length, IfOk, IfSome, IsUtf8};
 ghost use Rattle.std.specs.Option.{option_copied};
 ghost use Rattle.jl_logic.specs.Answers.{Gives};
 ghost use Rattle.jl_classw.specs.Faults.{told};
+ghost use Rattle.std.specs.List.{AllByRecursion};
+ghost use Rattle.jl_class.specs.Spelling.{HandlerFits};
+ghost use Rattle.jl_classw.specs.Built.{IsFit, AreNumbers, AreCodeNumbers};
 ghost use Rattle.jl_classw.specs.Building.{super_entered, some_constant_entered, optional_entered, attribute_entered, frames_entered, some_code_entered, code_entered};
 
 use crate::entering::{enter_class, enter_constant, enter_text};
@@ -11,7 +14,7 @@ use crate::entry::Constant;
 use crate::fault::WriteFault;
 use jl_class::CodeBytes;
 use jl_pool::Entry;
-use jl_prim::{Items, Name};
+use jl_prim::{Handler, Items, Name};
 
 /// Enters a superclass where there is one.
 pub fn enter_super(
@@ -22,6 +25,7 @@ pub fn enter_super(
     requires { length (pool.now ++ added.items) < 65536 }
     ensures exact { Gives told (λ x. (pool.now ++ x.0.items, x.1)) result (super_entered (pool.now ++ added.items) (option_copied name.entry)) }
     ensures few { IfOk result (λ x. length (pool.now ++ x.0.items) < 65536) }
+    ensures utf8 { IfOk result (λ _. IfSome (option_copied name.entry) IsUtf8) }
 {
     match name {
         Some(name) => enter_class(pool, added, name),
@@ -37,6 +41,7 @@ pub fn enter_optional(
 ) -> Result<(Vec<Entry>, Option<u16>), WriteFault>
     requires { length (pool.now ++ added.items) < 65536 }
     ensures exact { Gives told (λ x. (pool.now ++ x.0.items, x.1)) result (optional_entered (pool.now ++ added.items) constant) }
+    ensures fit { IfOk result (λ _. IfSome constant IsFit) }
     ensures few { IfOk result (λ x. length (pool.now ++ x.0.items) < 65536) }
 {
     match constant {
@@ -53,6 +58,7 @@ fn enter_some(
 ) -> Result<(Vec<Entry>, Option<u16>), WriteFault>
     requires { length (pool.now ++ added.items) < 65536 }
     ensures exact { Gives told (λ x. (pool.now ++ x.0.items, x.1)) result (some_constant_entered (pool.now ++ added.items) constant) }
+    ensures fit { IfOk result (λ _. IsFit constant) }
     ensures few { IfOk result (λ x. length (pool.now ++ x.0.items) < 65536) }
 {
     let attribute = Name::from_text(*added.allocator(), "ConstantValue")?;
@@ -67,6 +73,7 @@ pub fn enter_name(pool: &[Entry], added: Vec<Entry>, name: &Name) -> Result<Vec<
     requires { length (pool.now ++ added.items) < 65536 }
     ensures exact { Gives told (λ after. pool.now ++ after.items) result (attribute_entered (pool.now ++ added.items) name.now) }
     ensures few { IfOk result (λ after. length (pool.now ++ after.items) < 65536) }
+    ensures utf8 { IfOk result (λ _. IsUtf8 name.now) }
 {
     let (added, _) = enter_text(pool, added, name)?;
     Ok(added)
@@ -81,6 +88,7 @@ pub fn enter_code(
     requires { length (pool.now ++ added.items) < 65536 }
     ensures exact { Gives told (λ after. pool.now ++ after.items) result (code_entered (pool.now ++ added.items) code.now) }
     ensures few { IfOk result (λ after. length (pool.now ++ after.items) < 65536) }
+    ensures numbers { IfOk result (λ _. AreCodeNumbers code.now) }
 {
     match code {
         Some(code) => enter_some_code(pool, added, code),
@@ -97,10 +105,44 @@ fn enter_some_code(
     requires { length (pool.now ++ added.items) < 65536 }
     ensures exact { Gives told (λ after. pool.now ++ after.items) result (some_code_entered (pool.now ++ added.items) code.now) }
     ensures few { IfOk result (λ after. length (pool.now ++ after.items) < 65536) }
+    ensures numbers { IfOk result (λ _. AreNumbers code.now) }
 {
+    read_numbers(code);
     let name = Name::from_text(*added.allocator(), "Code")?;
     let added = enter_name(pool, added, &name)?;
     enter_frames(pool, added, &code.frames)
+}
+
+/// The numbers of a code fit two bytes, which is known once they are read.
+fn read_numbers(code: &CodeBytes)
+    ensures { AreNumbers code.now }
+{
+    read(code.max_stack);
+    read(code.max_locals);
+    read_handlers(code.handlers.as_slice());
+}
+
+fn read_handlers(handlers: &[Handler])
+    ensures { AllByRecursion HandlerFits handlers.now }
+{
+    for handler in handlers {
+        read_handler(handler);
+    }
+}
+
+fn read_handler(handler: &Handler)
+    ensures { HandlerFits handler.now }
+{
+    read(handler.start);
+    read(handler.end);
+    read(handler.target);
+    read(handler.catch_type);
+}
+
+fn read(n: u16)
+    ensures { n < 65536 }
+{
+    let _value = n;
 }
 
 fn enter_frames(
