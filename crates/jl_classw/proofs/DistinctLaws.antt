@@ -1,6 +1,7 @@
 -- Members of one table that are apart.
-use Rattle.std.proofs.Common.{◌≡◌, zero, suc, Bool, true, false, List, ◌∷◌, [], ◌++◌, map, refl, sym, subst, inl, inr, arith}
+use Rattle.std.proofs.Common.{◌≡◌, zero, suc, Bool, true, false, List, ◌∷◌, [], ◌++◌, map, refl, sym, ap, subst, inl, inr, arith}
 use Rattle.std.specs.Prelude.{◌||◌, Contains}
+use Rattle.std.specs.List.{list_any}
 use Rattle.std.specs.Cmp.Lexicographic.{bytes_decides}
 use Rattle.std.proofs.lemmas.List.{map_push}
 use Rattle.std.proofs.lemmas.List.Elements.{Contains-push_cases, Contains-append_cases, Contains-append_right}
@@ -46,3 +47,7 @@ not_among key (k ∷ ks) e c =
 -- one more member, which is none of those before it
 pub distinct_members : {B : Type 0} (key : B → MemberKey) (xs : List B) (x : B) → AreDistinct (map key xs) → is_member_among (key x) (map key xs) ≡ false → AreDistinct (map key (xs ++ x ∷ []))
 distinct_members key xs x d fresh = subst AreDistinct (sym (map_push key xs x)) (distinct_push (map key xs) (key x) d (not_among (key x) (map key xs) fresh))
+
+pub any_mapped : {A B : Type 0} (p : B → Bool) (f : A → B) (xs : List A) → list_any (λ x. p (f x)) xs ≡ list_any p (map f xs)
+any_mapped p f [] = refl
+any_mapped p f (x ∷ xs) = ap (λ (b : Bool). p (f x) || b) (any_mapped p f xs)

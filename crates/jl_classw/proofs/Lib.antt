@@ -1,3 +1,4 @@
+mod Rows
 pub mod BytesLaws
 pub mod IndexLaws
 pub mod PartLaws
@@ -8,3 +9,4 @@ pub mod DeclaresGrowth
 pub mod EnteredLaws
 pub mod DistinctLaws
 pub mod BuiltLaws
+pub mod UnitLaws

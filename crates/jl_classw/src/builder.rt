@@ -1,10 +1,14 @@
 //! Making a class part by part.
 
-ghost use Rattle.std.specs.Prelude.{◌≡◌, ◌<◌, ◌++◌, [], ◌∷◌, length, ℕ, List, false, is_some, map, OnOk, OnErr, IfOk, IsTrue, IsOkUnless, ◌⊎◌};
+ghost use Rattle.std.specs.Prelude.{◌&&◌, ◌≡◌, ◌<◌, ◌++◌, [], ◌∷◌, length, ℕ, List, false, is_some, map, OnOk, OnErr, IfOk, IsTrue, IsOkUnless, ◌⊎◌};
 ghost use Rattle.std.specs.Option.{option_copied};
+ghost use Rattle.std.specs.List.{list_any};
 ghost use Rattle.jl_logic.specs.Answers.{Gives};
+ghost use Rattle.jl_logic.specs.Order.{is_text};
 ghost use Rattle.jl_names.specs.Names.{names_a_class, names_a_field};
 ghost use Rattle.jl_pool.specs.Builder.{IsShort};
+ghost use Rattle.jl_class.specs.declared.member.FieldDecl.{FieldDecl};
+ghost use Rattle.jl_class.specs.declared.member.MethodDecl.{MethodDecl};
 ghost use Rattle.jl_class.specs.Meaning.{field_key, method_key, is_member_among, are_class_flags, are_field_flags, are_method_flags, is_interface, may_extend, names_method_with, describes_a_field, describes_method_with, has_code};
 ghost use Rattle.jl_class.specs.Spelling.{IsClass};
 ghost use Rattle.jl_classw.specs.Faults.{told};
@@ -15,9 +19,10 @@ use crate::entering::{enter_class, enter_new};
 use crate::entry::{Constant, NewEntry};
 use crate::fault::{WriteFault, too_many};
 use crate::needs::{enter_code, enter_name, enter_optional, enter_super};
+use bitflags::Flags;
 use jl_class::{ClassDecl, CodeBytes, FieldDecl, MethodDecl};
 use jl_pool::{Entry, Pool};
-use jl_prim::{Copied, Items, Name};
+use jl_prim::{AccessFlags, Copied, Items, Name};
 use std::alloc::Global;
 use std::marker::Model;
 
@@ -185,6 +190,27 @@ impl ClassBuilder {
         Ok(())
     }
 
+    /// Whether it is an interface.
+    pub fn is_interface(&self) -> bool
+        ensures { result ≡ is_interface self.now.flags }
+    {
+        AccessFlags::from_bits_retain(self.flags).contains(AccessFlags::INTERFACE)
+    }
+
+    /// Whether a field of this name and descriptor is there.
+    pub fn has_field(&self, name: &Name, desc: &Name) -> bool
+        ensures { result ≡ is_member_among (record { name = name.now; desc = desc.now }) (map field_key self.now.fields) }
+    {
+        is_field_of(&self.fields, name, desc)
+    }
+
+    /// Whether a method of this name and descriptor is there.
+    pub fn has_method(&self, name: &Name, desc: &Name) -> bool
+        ensures { result ≡ is_member_among (record { name = name.now; desc = desc.now }) (map method_key self.now.methods) }
+    {
+        is_method_of(&self.methods, name, desc)
+    }
+
     /// The class.
     pub fn finish(self) -> ClassDecl
         ensures same { result ≡ self }
@@ -213,6 +239,30 @@ impl ClassBuilder {
             Pool::from_entries(entries),
         )
     }
+}
+
+fn is_field_of(fields: &[FieldDecl], name: &Name, desc: &Name) -> bool
+    ensures { result ≡ is_member_among (record { name = name.now; desc = desc.now }) (map field_key fields.now) }
+{
+    any_field(fields, name, desc)
+}
+
+fn any_field(fields: &[FieldDecl], name: &Name, desc: &Name) -> bool
+    ensures { result ≡ list_any (λ (f : FieldDecl). is_text name.now f.name && is_text desc.now f.desc) fields.now }
+{
+    fields.iter().any(|f| name.as_str() == f.name.as_str() && desc.as_str() == f.desc.as_str())
+}
+
+fn is_method_of(methods: &[MethodDecl], name: &Name, desc: &Name) -> bool
+    ensures { result ≡ is_member_among (record { name = name.now; desc = desc.now }) (map method_key methods.now) }
+{
+    any_method(methods, name, desc)
+}
+
+fn any_method(methods: &[MethodDecl], name: &Name, desc: &Name) -> bool
+    ensures { result ≡ list_any (λ (m : MethodDecl). is_text name.now m.name && is_text desc.now m.desc) methods.now }
+{
+    methods.iter().any(|m| name.as_str() == m.name.as_str() && desc.as_str() == m.desc.as_str())
 }
 
 fn copied(name: Option<&Name>) -> Result<Option<Name>, WriteFault>

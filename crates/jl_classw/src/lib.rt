@@ -2,6 +2,8 @@
 #![tactic(auto)]
 
 mod builder;
+mod conditions;
+mod constants;
 mod entering;
 mod entry;
 mod fault;
@@ -12,6 +14,14 @@ mod places;
 mod writing;
 
 pub use builder::ClassBuilder;
+pub use conditions::{
+    are_class_flags, are_field_flags, are_method_flags, describes_a_field, describes_method,
+    has_code, is_short, is_small, may_extend, names_method,
+};
+pub use constants::may_have;
 pub use entry::{Constant, MemberKind, NewEntry};
 pub use fault::WriteFault;
 pub use writing::write_class;
+
+#[cfg(test)]
+mod tests;
