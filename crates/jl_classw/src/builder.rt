@@ -57,7 +57,11 @@ impl Model for ClassBuilder {
 }
 
 impl ClassBuilder {
-    /// A class with no members.
+    /// A class with no members, by its major version, its flags, its name in internal form and its
+    /// superclass, none for `java/lang/Object` (JVMS 4.1). `are_class_flags`, `is_class_name`, `is_short`
+    /// and `may_extend` test the conditions.
+    ///
+    /// Only memory can be wanting: so few entries fit a pool.
     #[tactic(auto, unfolding(crate::specs::Building::new_class))]
     pub fn new(
         alloc: Global,
@@ -92,7 +96,10 @@ impl ClassBuilder {
     }
 
     /// Enters an entry behind those that it needs, and answers its index. What is there already is not
-    /// entered again, and keeps its index.
+    /// entered again, and keeps its index. `is_short` tests the condition on each text.
+    ///
+    /// `TooMany("pool")` comes where the pool would have more than 65,535 entries, the unused one of index
+    /// 0 among them. On any error the class is as it was.
     #[tactic(auto, unfolding(crate::specs::Building::with_entry))]
     pub fn entry(&mut self, entry: NewEntry) -> Result<u16, WriteFault>
         requires { IsShortEntry entry }
@@ -104,7 +111,10 @@ impl ClassBuilder {
         Ok(index)
     }
 
-    /// Names one more interface.
+    /// Names one more interface (JVMS 4.1). `is_class_name` and `is_short` test the conditions.
+    ///
+    /// `TooMany` comes where the class has 65,535 interfaces already, with `interfaces`, or else where the
+    /// pool has no room for what is new, with `pool`. On any error the class is as it was.
     #[tactic(auto, unfolding(crate::specs::Building::with_interface))]
     pub fn interface(&mut self, name: &Name) -> Result<(), WriteFault>
         requires name { IsTrue (names_a_class name.now) }
@@ -121,7 +131,11 @@ impl ClassBuilder {
         Ok(())
     }
 
-    /// Adds a field.
+    /// Adds a field (JVMS 4.5), with the value that it is set to, if any (JVMS 4.7.2). `are_field_flags`,
+    /// `is_field_name`, `describes_a_field`, `is_short`, `has_field` and `may_have` test the conditions.
+    ///
+    /// `TooMany` comes where the class has 65,535 fields already, with `fields`, or else where the pool has
+    /// no room for what is new, with `pool`. On any error the class is as it was.
     #[tactic(auto, unfolding(crate::specs::Building::with_field))]
     pub fn field(
         &mut self,
@@ -155,7 +169,12 @@ impl ClassBuilder {
         Ok(())
     }
 
-    /// Adds a method.
+    /// Adds a method (JVMS 4.6), with code exactly where it is neither native nor abstract.
+    /// `are_method_flags`, `names_method`, `describes_method`, `is_short`, `has_method`, `has_code` and
+    /// `is_small` test the conditions.
+    ///
+    /// `TooMany` comes where the class has 65,535 methods already, with `methods`, or else where the pool
+    /// has no room for what is new, with `pool`. On any error the class is as it was.
     #[tactic(auto, unfolding(crate::specs::Building::with_method))]
     pub fn method(
         &mut self,
@@ -211,7 +230,7 @@ impl ClassBuilder {
         is_method_of(&self.methods, name, desc)
     }
 
-    /// The class.
+    /// The class, with its members in the order in which they were added. It can be written.
     pub fn finish(self) -> ClassDecl
         ensures same { result ≡ self }
         // Some file declares it.
