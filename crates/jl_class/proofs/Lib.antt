@@ -1,4 +1,10 @@
-mod MemberLaws
+pub mod AttributeLaws
+pub mod ContentLaws
+pub mod FileLaws
+pub mod MemberLaws
+pub mod MethodLaws
 mod PlaceLaws
 mod Rows
+pub mod Standing
 mod StepLaws
+pub mod TableLaws

@@ -1,13 +1,16 @@
 -- Worked rows: the definitions on small files.
-use Rattle.std.proofs.Common.{◌≡◌, ℕ, List, [], ◌∷◌, ◌++◌, Some, Ok, Err, refl}
+use Rattle.std.proofs.Common.{◌≡◌, ℕ, List, [], ◌∷◌, ◌++◌, None, Some, Ok, Err, true, false, refl}
 use Rattle.std.specs.Prelude.{codes}
 use Rattle.jl_reading.specs.Reading.{each_at}
 use Rattle.jl_names.specs.Names.{parts}
 use Rattle.jl_names.specs.Text.{plain, has_no_lone_surrogate, units_read, units_from, unit_at}
 use Rattle.jl_pool.specs.Reading.{pool_at, entry_at, content_at, text_at, bits_at}
+use Rattle.jl_pool.specs.declared.entry.Entry.{Entry}
 use Rattle.jl_pool.specs.declared.entry.Entry.TheVariants as entries
 use Rattle.jl_class.specs.declared.fault.ClassFault.TheVariants as faults
-use Rattle.jl_class.specs.Reading.{front_at, class_pool_at, flags_at, named_at, super_at, interfaces_at, fields_at, methods_at, others_at, steps_at, class_of}
+use Rattle.jl_class.specs.Meaning.{are_class_flags, are_field_flags, are_method_flags, may_extend, names_method_with, names_constant_value}
+use Rattle.jl_class.specs.Spelling.{code_bytes, member_bytes, contents}
+use Rattle.jl_class.specs.Reading.{front_at, class_pool_at, flags_at, named_at, super_at, interfaces_at, fields_at, methods_at, others_at, steps_at, class_of, attribute_at, head_at, once_at, content_end, constant_at, constants_at, long_text_at, handlers_at, inner_at, code_at}
 
 -- the bytes of p/A up to its flags, by the major version and the count of the pool
 abbrev front : ℕ → ℕ → List ℕ
@@ -59,3 +62,80 @@ no_super = refl
 cut_short : class_of (front 53 5 ++ (middle 0 4 ++ (0 ∷ 0 ∷ 0 ∷ 0 ∷ 0 ∷ 0 ∷ 0 ∷ []))) ≡ Err (faults.Short 53)
 unfolding class_of front_at class_pool_at flags_at named_at super_at interfaces_at fields_at methods_at others_at steps_at each_at pool_at entry_at content_at text_at bits_at units_read units_from unit_at plain has_no_lone_surrogate lib.Utf8.encode parts
 cut_short = refl
+
+-- ---- flags and superclasses
+
+not_abstract_flags : are_class_flags 0x200 ≡ false
+not_abstract_flags = refl
+
+interface_flags : are_class_flags 0x600 ≡ true
+interface_flags = refl
+
+instance_field_of_interface : are_field_flags true 0x1 ≡ false
+instance_field_of_interface = refl
+
+abstract_and_static : are_method_flags 0x408 ≡ false
+abstract_and_static = refl
+
+interface_of_another : may_extend 0x600 (codes "p/I") (Some (codes "p/A")) ≡ false
+interface_of_another = refl
+
+object_itself : may_extend 0x21 (codes "java/lang/Object") None ≡ true
+object_itself = refl
+
+static_init : names_method_with 0x8 (codes "<init>") ≡ false
+static_init = refl
+
+-- ---- attributes
+
+abbrev pool : List Entry
+pool = entries.Unused ∷ entries.Utf8 (codes "ConstantValue") ∷ entries.Integer 7 ∷ entries.Float 0 ∷ entries.Utf8 (codes "StackMapTable") ∷ []
+
+constant_of_its_type : constant_at 0x8 (codes "I") pool 3 (0 ∷ 2 ∷ []) 0 ≡ Ok 2
+unfolding constant_at
+constant_of_its_type = refl
+
+constant_of_another_type : constant_at 0x8 (codes "I") pool 3 (0 ∷ 3 ∷ []) 0 ≡ Err (faults.Attribute 3)
+unfolding constant_at
+constant_of_another_type = refl
+
+constant_of_an_instance : constant_at 0 (codes "I") pool 3 (0 ∷ 3 ∷ []) 0 ≡ Ok 3
+unfolding constant_at
+constant_of_an_instance = refl
+
+second_constant : constants_at 0x8 (codes "I") pool (0 ∷ 2 ∷ 0 ∷ 1 ∷ 0 ∷ 0 ∷ 0 ∷ 2 ∷ 0 ∷ 2 ∷ 0 ∷ 1 ∷ []) 0 ≡ Err (faults.Attribute 10)
+unfolding constants_at steps_at attribute_at head_at once_at content_end constant_at plain lib.Utf8.encode
+second_constant = refl
+
+-- the content of a Code attribute up to its attributes
+abbrev code : List ℕ
+code = 0 ∷ 1 ∷ 0 ∷ 2 ∷ 0 ∷ 0 ∷ 0 ∷ 1 ∷ 177 ∷ 0 ∷ 0 ∷ []
+
+code_read : code_at pool 3 (code ++ 0 ∷ 0 ∷ []) 0 ≡ Ok (record { max_stack = 1; max_locals = 2; code = 177 ∷ []; handlers = []; frames = None })
+unfolding code_at long_text_at content_end handlers_at inner_at each_at steps_at
+code_read = refl
+
+code_with_frames : code_at pool 3 (code ++ 0 ∷ 1 ∷ 0 ∷ 4 ∷ 0 ∷ 0 ∷ 0 ∷ 1 ∷ 9 ∷ []) 0
+    ≡ Ok (record { max_stack = 1; max_locals = 2; code = 177 ∷ []; handlers = []; frames = Some (9 ∷ []) })
+unfolding code_at long_text_at content_end handlers_at inner_at each_at steps_at attribute_at head_at once_at plain lib.Utf8.encode
+code_with_frames = refl
+
+code_cut : code_at pool 3 (code ++ 0 ∷ []) 0 ≡ Err (faults.Attribute 3)
+unfolding code_at long_text_at content_end handlers_at inner_at each_at
+code_cut = refl
+
+frames_cut : code_at pool 3 (code ++ 0 ∷ 1 ∷ 0 ∷ 4 ∷ 0 ∷ []) 0 ≡ Err (faults.Attribute 13)
+unfolding code_at long_text_at content_end handlers_at inner_at each_at steps_at attribute_at head_at once_at plain lib.Utf8.encode
+frames_cut = refl
+
+-- ---- spellings
+
+code_spelled : code_bytes (record { max_stack = 1; max_locals = 2; code = 177 ∷ []; handlers = []; frames = None }) [] ≡ code ++ 0 ∷ 0 ∷ []
+code_spelled = refl
+
+member_spelled : member_bytes (record { flags = 0x8; name = 5; desc = 6; attributes = record { index = 1; content = 0 ∷ 2 ∷ [] } ∷ [] }) ≡ 0 ∷ 8 ∷ 0 ∷ 5 ∷ 0 ∷ 6 ∷ 0 ∷ 1 ∷ 0 ∷ 1 ∷ 0 ∷ 0 ∷ 0 ∷ 2 ∷ 0 ∷ 2 ∷ []
+member_spelled = refl
+
+constants_among : contents pool names_constant_value (record { index = 4; content = [] } ∷ record { index = 1; content = 0 ∷ 2 ∷ [] } ∷ []) ≡ (0 ∷ 2 ∷ []) ∷ []
+unfolding plain lib.Utf8.encode
+constants_among = refl

@@ -1,6 +1,7 @@
 //! Classes and interfaces.
 
-ghost use Rattle.std.specs.Prelude.{◌≡◌, ◌&&◌, position};
+ghost use Rattle.std.specs.Prelude.{◌≡◌, ◌&&◌, ℕ, List, position};
+ghost use Rattle.jl_class.specs.Spelling.{IsClass};
 ghost use Rattle.std.specs.Option.{option_copied};
 ghost use Rattle.jl_logic.specs.Order.{is_text};
 ghost use Rattle.jl_class.specs.declared.member.FieldDecl.{FieldDecl};
@@ -27,15 +28,20 @@ pub struct ClassDecl {
 }
 
 impl Model for ClassDecl {
+    ghost use Rattle.std.specs.Prelude.{ℕ, List};
     ghost use Rattle.jl_class.specs.Classes.{Class};
+    ghost use Rattle.jl_class.specs.Spelling.{IsClass};
 
     ghost Value = { Class };
 
     ghost view = { λ c. record { major = c.major; minor = c.minor; flags = c.flags; name = c.name; super_name = c.super_name; interfaces = c.interfaces; fields = c.fields; methods = c.methods; pool = c.pool } };
+
+    // Some class file declares it.
+    ghost invariant = { λ c. (bytes : List ℕ) × IsClass bytes (record { major = c.major; minor = c.minor; flags = c.flags; name = c.name; super_name = c.super_name; interfaces = c.interfaces; fields = c.fields; methods = c.methods; pool = c.pool }) };
 }
 
 impl ClassDecl {
-    /// A class of these parts.
+    /// A class of these parts, which some class file declares.
     pub fn from_parts(
         version: (u16, u16),
         flags: u16,
@@ -46,6 +52,7 @@ impl ClassDecl {
         methods: Items<MethodDecl>,
         pool: Pool,
     ) -> ClassDecl
+        requires { (bytes : List ℕ) × IsClass bytes (record { major = version.0; minor = version.1; flags = flags; name = name; super_name = super_name; interfaces = interfaces; fields = fields; methods = methods; pool = pool }) }
         ensures { result ≡ record { major = version.0; minor = version.1; flags = flags; name = name; super_name = super_name; interfaces = interfaces; fields = fields; methods = methods; pool = pool } }
     {
         let (major, minor) = version;

@@ -17,5 +17,9 @@ mod table;
 
 pub use class::ClassDecl;
 pub use fault::ClassFault;
+pub use flags::{are_class_flags, are_field_flags, are_method_flags, has_code, is_interface};
 pub use member::{CodeBytes, FieldDecl, MemberKey, MethodDecl};
 pub use reading::read_class;
+
+#[cfg(test)]
+mod tests;

@@ -1,10 +1,13 @@
 //! Reading a class file.
 
-ghost use Rattle.std.specs.Prelude.{◌≡◌, IfOk};
+ghost use Rattle.std.specs.Prelude.{◌≡◌, ◌↔◌, IfOk, Ok, Err};
 ghost use Rattle.std.specs.Option.{option_copied};
 ghost use Rattle.jl_logic.specs.Answers.{Gives};
+ghost use Rattle.jl_class.specs.declared.fault.ClassFault.{ClassFault};
+ghost use Rattle.jl_class.specs.Classes.{Class};
 ghost use Rattle.jl_class.specs.Faults.{told};
 ghost use Rattle.jl_class.specs.Reading.{class_of};
+ghost use Rattle.jl_class.specs.Spelling.{IsClass};
 
 use crate::attribute::pass_attributes;
 use crate::class::ClassDecl;
@@ -20,9 +23,19 @@ use std::alloc::Global;
 /// The class that a class file declares (JVMS 4.1).
 ///
 /// The first fault from the left is the answer.
-#[tactic(auto, unfolding(crate::specs::Reading::class_of))]
 pub fn read_class(alloc: Global, bytes: &[u8]) -> Result<ClassDecl, ClassFault>
     ensures exact { Gives told (λ c. c) result (class_of bytes.now) }
+    ensures found { IfOk result (λ c. IsClass bytes.now c) }
+    ensures only { (c : Class) → IsClass bytes.now c → Gives told (λ c. c) result (Ok c) }
+    // There is a fault exactly where there is no class.
+    ensures one { ((f : ClassFault) × (class_of bytes.now ≡ Err f)) ↔ ((c : Class) → IsClass bytes.now c → ⊥) }
+{
+    class(alloc, bytes)
+}
+
+#[tactic(auto, unfolding(crate::specs::Reading::class_of))]
+fn class(alloc: Global, bytes: &[u8]) -> Result<ClassDecl, ClassFault>
+    ensures { Gives told (λ c. c) result (class_of bytes.now) }
 {
     let (version, at) = front(bytes)?;
     let (pool, at) = class_pool(alloc, bytes, at)?;
