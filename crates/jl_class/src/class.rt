@@ -120,7 +120,9 @@ impl ClassDecl {
 
     /// The constant pool.
     pub fn pool(&self) -> &Pool
-        ensures { result.now ≡ self.now.pool }
+        ensures pool { result.now ≡ self.now.pool }
+        // Some class file declares the class.
+        ensures declared { (bytes : List ℕ) × IsClass bytes self.now }
     {
         &self.pool
     }
