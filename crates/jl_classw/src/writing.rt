@@ -24,26 +24,26 @@ const MAGIC: u32 = 0xcafe_babe;
 /// It has the pool as it is, each name by the least index that has it, and of the attributes only
 /// ConstantValue, Code and StackMapTable.
 pub fn write_class(alloc: Global, c: &ClassDecl) -> Result<Vec<u8>, WriteFault>
-    requires declared { (bytes : List ℕ) × IsClass bytes c.now }
     ensures exact { IfOk result (λ bytes. bytes.items ≡ file_bytes c.now) }
     // What is written is read as the same class.
     ensures back { IfOk result (λ bytes. IsClass bytes.items c.now) }
     // No other error comes.
     ensures memory { IsOkUnless result WriteFault.NoMemory }
 {
-    written(alloc, c)
+    written(alloc, c, c.pool())
 }
 
-/// The file of a class whose numbers fit.
-fn written(alloc: Global, c: &ClassDecl) -> Result<Vec<u8>, WriteFault>
-    requires { IsWritable c.now.pool c.now }
+/// The file of a class whose numbers fit, with its pool.
+fn written(alloc: Global, c: &ClassDecl, pool: &Pool) -> Result<Vec<u8>, WriteFault>
+    requires fit { IsWritable c.now.pool c.now }
+    requires same { pool.now ≡ c.now.pool }
     ensures exact { IfOk result (λ bytes. bytes.items ≡ file_bytes c.now) }
     ensures memory { IsOkUnless result WriteFault.NoMemory }
 {
-    let places = Places::of(alloc, c.pool())?;
+    let places = Places::of(alloc, pool)?;
     let mut bytes = Vec::new(alloc);
     push_front(&mut bytes, c)?;
-    push_pool(alloc, &mut bytes, c.pool())?;
+    push_pool(alloc, &mut bytes, pool)?;
     push_names(&mut bytes, &places, c)?;
     push_members(&mut bytes, &places, c)?;
     Ok(bytes)

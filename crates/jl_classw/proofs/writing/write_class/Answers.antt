@@ -1,8 +1,8 @@
 use Rattle.jl_classw.proofs.WholeLaws.{writable, written_back}
 use Rattle.jl_classw.proofs.writing.write_class.Goals as goal
 
-pub written-requires : goal.written-requires
-written-requires c = writable c.requires.declared.0 c.args.c.now c.requires.declared.1
+pub written-requires-clause-fit : goal.written-requires-clause-fit
+written-requires-clause-fit c = writable c.pool.ensures.declared.0 c.args.c.now c.pool.ensures.declared.1
 
 pub returns-clause-back : goal.returns-clause-back
-returns-clause-back c = written_back (λ v. v.items) c.written.result c.requires.declared.0 c.args.c.now c.requires.declared.1 c.written.ensures.exact
+returns-clause-back c = written_back (λ v. v.items) c.written.result c.pool.ensures.declared.0 c.args.c.now c.pool.ensures.declared.1 c.written.ensures.exact
