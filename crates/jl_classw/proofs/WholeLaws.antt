@@ -10,7 +10,9 @@ use Rattle.jl_pool.specs.declared.entry.Entry.{Entry}
 use Rattle.jl_pool.specs.declared.entry.Entry.TheVariants as entries
 use Rattle.jl_pool.specs.Spelling.{entry_bytes, EntryFits, ArePoolEntries}
 use Rattle.jl_class.specs.declared.member.MethodDecl.{MethodDecl}
+use Rattle.jl_class.proofs.FileLaws.{class_reads}
 use Rattle.jl_class.specs.Classes.{Class}
+use Rattle.jl_class.specs.Reading.{class_of}
 use Rattle.jl_class.specs.Meaning.{is_interface, is_of_modules, class_named, super_named}
 use Rattle.jl_class.specs.Spelling.{Parts, counted, member_bytes, back_bytes, HasName, IsField, IsMethod, Declares, IsClass}
 use Rattle.jl_class.specs.Meaning.{field_key, method_key}
@@ -143,3 +145,7 @@ written_again bytes c is =
 pub written_back : {X E : Type 0} (items : X → List ℕ) (r : Result X E) (bytes : List ℕ) (c : Class) → IsClass bytes c → IfOk r (λ x. items x ≡ file_bytes c) → IfOk r (λ x. IsClass (items x) c)
 written_back items (Ok x) bytes c is e = subst (λ (file : List ℕ). IsClass file c) (sym e) (written_again bytes c is)
 written_back items (Err f) bytes c is e = tt
+
+pub written_read : {X E : Type 0} (items : X → List ℕ) (r : Result X E) (bytes : List ℕ) (c : Class) → IsClass bytes c → IfOk r (λ x. items x ≡ file_bytes c) → IfOk r (λ x. class_of (items x) ≡ Ok c)
+written_read {E = E} items (Ok x) bytes c is e = class_reads (items x) c (written_back {E = E} items (Ok x) bytes c is e)
+written_read items (Err f) bytes c is e = tt

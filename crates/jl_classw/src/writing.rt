@@ -1,10 +1,11 @@
 //! Writing a class file (JVMS 4.1).
 
-ghost use Rattle.std.specs.Prelude.{◌≡◌, ◌<◌, ◌++◌, ℕ, List, length, IfOk, OnOk, IsOkUnless};
+ghost use Rattle.std.specs.Prelude.{◌≡◌, ◌<◌, ◌++◌, ℕ, List, length, Ok, IfOk, OnOk, IsOkUnless};
 ghost use Rattle.std.specs.List.{AllByRecursion};
 ghost use Rattle.jl_reading.specs.Reading.{two};
 ghost use Rattle.jl_pool.specs.Spelling.{EntryFits};
 ghost use Rattle.jl_class.specs.declared.member.MethodDecl.{MethodDecl};
+ghost use Rattle.jl_class.specs.Reading.{class_of};
 ghost use Rattle.jl_class.specs.Spelling.{IsClass, counted, member_bytes};
 ghost use Rattle.jl_classw.specs.Writing as words;
 ghost use Rattle.jl_classw.specs.Writing.{class_index, super_index, field_member, method_member, front_bytes, names_bytes, members_bytes, file_bytes, IsShortCode, IsWritable};
@@ -25,8 +26,9 @@ const MAGIC: u32 = 0xcafe_babe;
 /// ConstantValue, Code and StackMapTable.
 pub fn write_class(alloc: Global, c: &ClassDecl) -> Result<Vec<u8>, WriteFault>
     ensures exact { IfOk result (λ bytes. bytes.items ≡ file_bytes c.now) }
-    // What is written is read as the same class.
+    // What is written declares the same class, and is read so.
     ensures back { IfOk result (λ bytes. IsClass bytes.items c.now) }
+    ensures again { IfOk result (λ bytes. class_of bytes.items ≡ Ok c.now) }
     // No other error comes.
     ensures memory { IsOkUnless result WriteFault.NoMemory }
 {
