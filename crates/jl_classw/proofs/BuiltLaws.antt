@@ -6,7 +6,7 @@ use Rattle.std.proofs.lemmas.List.{append-nil, length-append, length_push}
 use Rattle.std.specs.Str.{IsAscii}
 use Rattle.std.specs.Char.Escape.{encode_utf16}
 use Rattle.std.proofs.lemmas.Str.{IsUtf8-from_ascii, chars-IsAscii}
-use Rattle.std.proofs.lemmas.Bool.{ltb-true}
+use Rattle.std.proofs.lemmas.Bool.{ltb-true, ltb-false}
 use Rattle.std.proofs.lemmas.List.Concat.{flat_map-cons}
 use Rattle.jl_reading.specs.Reading.{◌>>=◌, two}
 use Rattle.jl_reading.proofs.Steps.{bind_ok, ok_is}
@@ -29,7 +29,7 @@ use Rattle.jl_classw.specs.declared.fault.WriteFault.{WriteFault}
 use Rattle.jl_classw.specs.declared.entry.Constant.{Constant}
 use Rattle.jl_classw.specs.declared.entry.NewEntry.{NewEntry}
 use Rattle.jl_classw.specs.Built.{IsPool, IsBuilt, IsSuper, IsShortEntry, tag_of_constant, MayHave, AreShortFrames, IsSmall, IsFit, IsSound, AreCodeNumbers}
-use Rattle.jl_classw.specs.Building.{text_entered, class_entered, super_entered, constant_entered, new_entered, some_constant_entered, optional_entered, attribute_entered, frames_entered, some_code_entered, code_entered}
+use Rattle.jl_classw.specs.Building.{text_entered, class_entered, super_entered, constant_entered, new_entered, some_constant_entered, optional_entered, attribute_entered, frames_entered, some_code_entered, code_entered, has_many_handlers}
 use Rattle.jl_classw.proofs.IndexLaws.{is_super, not_first}
 use Rattle.jl_classw.proofs.WholeLaws.{is_class, bytes_by}
 use Rattle.jl_classw.proofs.PartLaws.{kept_contents, match_length, code_length}
@@ -237,12 +237,12 @@ handlers_length (h ∷ hs) =
     let r = handlers_length hs in
     omega (arith, l, m, r)
 
-has_code_of : (pool : List Entry) (o : Option CodeBytes) (more : List Entry) → IsPool pool → IsUtf8 (codes "Code") → IsShort (codes "Code") → IsUtf8 (codes "StackMapTable") → IsShort (codes "StackMapTable") → IsSmall o → AreCodeNumbers o
+has_code_of : (pool : List Entry) (o : Option CodeBytes) (more : List Entry) → IsPool pool → IsUtf8 (codes "Code") → IsShort (codes "Code") → IsUtf8 (codes "StackMapTable") → IsShort (codes "StackMapTable") → IsSmall o → has_many_handlers o ≡ false → AreCodeNumbers o
     → code_entered pool o ≡ Ok more → HasCode pool more o
 unfolding some_code_entered
-has_code_of pool None more is utf8_code short_code utf8_frames short_frames small numbers h =
+has_code_of pool None more is utf8_code short_code utf8_frames short_frames small counted numbers h =
     subst (λ (l : List Entry). HasCode pool l None) (ok_is pool more h) (record { grown = grown_self pool is; attributes = []; fit = record { few = omega arith; fit = tt }; code = refl })
-has_code_of pool (Some c) more is utf8_code short_code utf8_frames short_frames small numbers h =
+has_code_of pool (Some c) more is utf8_code short_code utf8_frames short_frames small counted numbers h =
     let name = codes "Code" in
     let a = bind_ok (attribute_entered pool name) (λ named. frames_entered named c.frames) more h in
     let e = attribute_is_entered pool name a.0 is utf8_code short_code a.1 in
@@ -251,7 +251,8 @@ has_code_of pool (Some c) more is utf8_code short_code utf8_frames short_frames 
     let content = code_bytes c f.attributes in
     let size = code_length c f.attributes in
     let handlers = handlers_length c.handlers in
-    let few = small.handlers in
+    let most = ltb-false 65535 (length c.handlers) counted in
+    let few : length c.handlers < 65536 = omega (arith, most) in
     let short = small.code in
     let frames = f.short in
     let length_fits : length content < 4294967296 = omega (arith, size, handlers, few, short, frames) in
@@ -271,14 +272,14 @@ has_code_of pool (Some c) more is utf8_code short_code utf8_frames short_frames 
 
 pub method_built : (c : Class) (flags : ℕ) (name desc : List ℕ) (o : Option CodeBytes) (named described more : List Entry) → IsBuilt c → IsUtf8 (codes "Code") → IsShort (codes "Code") → IsUtf8 (codes "StackMapTable") → IsShort (codes "StackMapTable") → flags < 65536
     → are_method_flags flags ≡ true → names_method_with flags name ≡ true → describes_method_with name desc ≡ true → is_some o ≡ has_code flags → is_member_among (record { name = name; desc = desc }) (map method_key c.methods) ≡ false
-    → IsUtf8 name → IsShort name → IsUtf8 desc → IsShort desc → IsSmall o → AreCodeNumbers o → length c.methods < 65535
+    → IsUtf8 name → IsShort name → IsUtf8 desc → IsShort desc → IsSmall o → has_many_handlers o ≡ false → AreCodeNumbers o → length c.methods < 65535
     → attribute_entered c.pool name ≡ Ok named → attribute_entered named desc ≡ Ok described → code_entered described o ≡ Ok more
     → IsBuilt (record c { methods = c.methods ++ (record { flags = flags; name = name; desc = desc; code = o }) ∷ []; pool = more })
-method_built c flags name desc o named described more b utf8_code short_code utf8_frames short_frames small right right_name right_desc has fresh utf8 short utf8_desc short_desc few numbers room h i j =
+method_built c flags name desc o named described more b utf8_code short_code utf8_frames short_frames small right right_name right_desc has fresh utf8 short utf8_desc short_desc few counted numbers room h i j =
     let p = b.parts in
     let e = attribute_is_entered c.pool name named b.pool utf8 short h in
     let f = attribute_is_entered named desc described e.grown.right utf8_desc short_desc i in
-    let k = has_code_of described o more f.grown.right utf8_code short_code utf8_frames short_frames few numbers j in
+    let k = has_code_of described o more f.grown.right utf8_code short_code utf8_frames short_frames few counted numbers j in
     let rest = grown_then named described more f.grown k.grown in
     let name_there = there_still named more rest e.index (entries.Utf8 (utf16 name)) e.there in
     let desc_there = there_still described more k.grown f.index (entries.Utf8 (utf16 desc)) f.there in
@@ -443,17 +444,17 @@ field_kept c one other third_front new first second third more flags row_name ro
 
 pub method_kept : (c : Class) (one other third_front new first second third more : List Entry) (flags : ℕ) (row_name row_desc name desc : List ℕ) (o : Option CodeBytes) (rows : List MethodDecl) → IsBuilt c → flags < 65536
     → are_method_flags flags ≡ true → names_method_with flags name ≡ true → describes_method_with name desc ≡ true → is_some o ≡ has_code flags → is_member_among (record { name = name; desc = desc }) (map method_key c.methods) ≡ false
-    → IsUtf8 name → IsUtf8 desc → IsShort name × IsShort desc → IsSmall o → AreCodeNumbers o → length c.methods < 65535
+    → IsUtf8 name → IsUtf8 desc → IsShort name × IsShort desc → IsSmall o → has_many_handlers o ≡ false → AreCodeNumbers o → length c.methods < 65535
     → one ≡ c.pool → other ≡ c.pool → third_front ≡ c.pool → new ≡ [] → attribute_entered (one ++ new) name ≡ Ok (one ++ first) → attribute_entered (other ++ first) desc ≡ Ok (other ++ second) → code_entered (third_front ++ second) o ≡ Ok (third_front ++ third)
     → row_name ≡ name → row_desc ≡ desc → rows ≡ c.methods ++ (record { flags = flags; name = row_name; desc = row_desc; code = o }) ∷ [] → more ≡ c.pool ++ third
     → Kept (record c { methods = rows; pool = more })
-method_kept c one other third_front new first second third more flags row_name row_desc name desc o rows b small right right_name right_desc has fresh utf8 utf8_desc short few numbers room e f g n h i j same_name same_desc rows_are more_is =
+method_kept c one other third_front new first second third more flags row_name row_desc name desc o rows b small right right_name right_desc has fresh utf8 utf8_desc short few counted numbers room e f g n h i j same_name same_desc rows_are more_is =
     let named = first_over (λ (l : List Entry). attribute_entered l name) c.pool one new first e n h in
     let described = over (λ (l : List Entry). attribute_entered l desc) c.pool other first second f i in
     let coded : code_entered (c.pool ++ second) o ≡ Ok more = over (λ (l : List Entry). code_entered l o) c.pool third_front second third g j ∙ ap (λ (l : List Entry). Ok l) (sym more_is) in
     let method : List ℕ → List ℕ → MethodDecl = λ n d. record { flags = flags; name = n; desc = d; code = o } in
     let listed : c.methods ++ method name desc ∷ [] ≡ rows = sym (rows_are ∙ ap₂ (λ (n d : List ℕ). c.methods ++ method n d ∷ []) same_name same_desc) in
-    let built = method_built c flags name desc o (c.pool ++ first) (c.pool ++ second) more b utf8_code short_code utf8_frames short_frames small right right_name right_desc has fresh utf8 short.0 utf8_desc short.1 few numbers room named described coded in
+    let built = method_built c flags name desc o (c.pool ++ first) (c.pool ++ second) more b utf8_code short_code utf8_frames short_frames small right right_name right_desc has fresh utf8 short.0 utf8_desc short.1 few counted numbers room named described coded in
     kept (record c { methods = rows; pool = more }) (subst (λ (l : List MethodDecl). IsBuilt (record c { methods = l; pool = more })) listed built)
 
 pub class_kept : (start front other new first second more : List Entry) (major flags : ℕ) (row_name name : List ℕ) (row_super super_name : Option (List ℕ)) (interfaces : List (List ℕ)) (fields : List FieldDecl) (methods : List MethodDecl) (i j : ℕ)

@@ -167,8 +167,13 @@ with_field c flags name desc constant = if nat_lt 65534 (length c.fields) then t
   value ← optional_entered described constant
   Ok (record c { fields = c.fields ++ (record { flags = flags; name = name; desc = desc; constant = value.1 }) ∷ []; pool = value.0 }))
 
+-- more handlers than two bytes count (JVMS 4.7.3)
+abbrev pub has_many_handlers : Option CodeBytes → Bool
+has_many_handlers None = false
+has_many_handlers (Some code) = nat_lt 65535 (length code.handlers)
+
 unfoldable pub with_method : Class → ℕ → List ℕ → List ℕ → Option CodeBytes → Result Class WriteFault
-with_method c flags name desc code = if nat_lt 65534 (length c.methods) then too_many (codes "methods") else (do
+with_method c flags name desc code = if nat_lt 65534 (length c.methods) then too_many (codes "methods") else if has_many_handlers code then too_many (codes "handlers") else (do
   named ← attribute_entered c.pool name
   described ← attribute_entered named desc
   coded ← code_entered described code

@@ -66,11 +66,10 @@ abbrev pub AreShortFrames : Option (List ℕ) → Type 0
 AreShortFrames None = ⊤
 AreShortFrames (Some frames) = length frames ≤ 4194304
 
--- code and frames have at most 4,194,304 bytes each, and the handlers can be counted
+-- code and frames have at most 4,194,304 bytes each
 pub record IsSmallCode (c : CodeBytes) : Type 0 where
   pub code : length c.code ≤ 4194304
   pub frames : AreShortFrames c.frames
-  pub handlers : length c.handlers < 65536
 
 abbrev pub IsSmall : Option CodeBytes → Type 0
 IsSmall None = ⊤

@@ -18,7 +18,7 @@ ghost use Rattle.jl_classw.specs.Building.{new_class, with_entry, with_interface
 use crate::entering::{enter_class, enter_new};
 use crate::entry::{Constant, NewEntry};
 use crate::fault::{WriteFault, too_many};
-use crate::needs::{enter_code, enter_name, enter_optional, enter_super};
+use crate::needs::{enter_code, enter_name, enter_optional, enter_super, has_many_handlers};
 use bitflags::Flags;
 use jl_class::{ClassDecl, CodeBytes, FieldDecl, MethodDecl};
 use jl_pool::{Entry, Pool};
@@ -173,8 +173,9 @@ impl ClassBuilder {
     /// `are_method_flags`, `names_method`, `describes_method`, `is_short`, `has_method`, `has_code` and
     /// `is_small` test the conditions.
     ///
-    /// `TooMany` comes where the class has 65,535 methods already, with `methods`, or else where the pool
-    /// has no room for what is new, with `pool`. On any error the class is as it was.
+    /// `TooMany` comes where the class has 65,535 methods already, with `methods`, or else where the code has
+    /// more than 65,535 handlers, with `handlers`, or else where the pool has no room for what is new, with
+    /// `pool`. On any error the class is as it was.
     #[tactic(auto, unfolding(crate::specs::Building::with_method))]
     pub fn method(
         &mut self,
@@ -195,6 +196,9 @@ impl ClassBuilder {
     {
         if self.methods.len() >= MOST_ROWS {
             return too_many(self.alloc, "methods");
+        }
+        if has_many_handlers(&code) {
+            return too_many(self.alloc, "handlers");
         }
         let added = enter_name(&self.entries, Vec::new(self.alloc), name)?;
         let added = enter_name(&self.entries, added, desc)?;

@@ -21,9 +21,6 @@ const MOST_BYTES: usize = 65535;
 /// The most bytes of a code, and of its frames.
 const MOST_CODE: usize = 4_194_304;
 
-/// The most handlers of a code (JVMS 4.7.3).
-const MOST_HANDLERS: usize = 65535;
-
 /// Whether a text is short enough for a pool: at most 65,535 bytes (JVMS 4.4.7).
 pub fn is_short(alloc: Global, text: &Name) -> Result<bool, WriteFault>
     ensures { IfOk result (λ b. IsTrue b ↔ IsShort text.now) }
@@ -140,16 +137,14 @@ pub fn describes_method(alloc: Global, name: &Name, text: &Name) -> Result<bool,
     }
 }
 
-/// Whether code and frames have at most 4,194,304 bytes each, and the handlers can be counted.
+/// Whether code and frames have at most 4,194,304 bytes each.
 pub fn is_small(code: &Option<CodeBytes>) -> bool
     ensures { IsTrue result ↔ IsSmall code.now }
 {
     match code {
         None => true,
         Some(code) => {
-            code.code.len() <= MOST_CODE
-                && are_small_frames(&code.frames)
-                && code.handlers.len() <= MOST_HANDLERS
+            code.code.len() <= MOST_CODE && are_small_frames(&code.frames)
         }
     }
 }

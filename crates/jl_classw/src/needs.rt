@@ -7,6 +7,7 @@ ghost use Rattle.jl_classw.specs.Faults.{told};
 ghost use Rattle.std.specs.List.{AllByRecursion};
 ghost use Rattle.jl_class.specs.Spelling.{HandlerFits};
 ghost use Rattle.jl_classw.specs.Built.{IsFit, AreNumbers, AreCodeNumbers};
+ghost use Rattle.jl_classw.specs.Building as building;
 ghost use Rattle.jl_classw.specs.Building.{super_entered, some_constant_entered, optional_entered, attribute_entered, frames_entered, some_code_entered, code_entered};
 
 use crate::entering::{enter_class, enter_constant, enter_text};
@@ -77,6 +78,19 @@ pub fn enter_name(pool: &[Entry], added: Vec<Entry>, name: &Name) -> Result<Vec<
 {
     let (added, _) = enter_text(pool, added, name)?;
     Ok(added)
+}
+
+/// The most handlers of a code (JVMS 4.7.3).
+const MOST_HANDLERS: usize = 65535;
+
+/// Whether a code has more handlers than two bytes count.
+pub fn has_many_handlers(code: &Option<CodeBytes>) -> bool
+    ensures { result ≡ building.has_many_handlers code.now }
+{
+    match code {
+        Some(code) => code.handlers.len() > MOST_HANDLERS,
+        None => false,
+    }
 }
 
 /// Enters the names of the attributes that a method has (JVMS 4.7.3, 4.7.4).
