@@ -20,7 +20,7 @@ use Rattle.jl_classw.specs.declared.entry.MemberKind.TheVariants as kinds
 use Rattle.jl_classw.specs.declared.entry.NewEntry.{NewEntry}
 use Rattle.jl_classw.specs.declared.entry.NewEntry.TheVariants as news
 use Rattle.jl_classw.specs.Built.{IsPool, IsShortConstant, IsShortEntry, tag_of_constant, IsFit, IsSound}
-use Rattle.jl_classw.specs.Building.{entered, text_entered, class_entered, string_entered, name_and_type_entered, member_entry, member_entered, constant_entered, new_entered, attribute_entered}
+use Rattle.jl_classw.specs.Building.{entered, text_entered, class_entered, string_entered, name_and_type_entered, member_entry, kind_of, member_entered, constant_entered, new_entered, attribute_entered}
 use Rattle.jl_classw.proofs.PoolGrowth.{Grown, grown_then, there_still, small_index, and_is, IsFine, Entered, is_entered, text_is_entered}
 
 -- ---- what the entries name
@@ -158,5 +158,5 @@ constant_is_entered pool (constants.Text units) more i is short fit h = string_i
 
 pub new_is_entered : (pool : List Entry) (e : NewEntry) (more : List Entry) (i : ℕ) → IsPool pool → IsShortEntry e → IsSound e → new_entered pool e ≡ Ok (more, i) → Grown pool more
 new_is_entered pool (news.Class name) more i is short sound h = (class_is_entered pool name more i is sound short h).grown
-new_is_entered pool (news.Member kind class name desc) more i is short sound h = member_is_entered pool kind class name desc more i is sound.0 short.0 sound.1 short.1 sound.2 short.2 h
+new_is_entered pool (news.Member tag class name desc) more i is short sound h = member_is_entered pool (kind_of tag) class name desc more i is sound.0 short.0 sound.1 short.1 sound.2 short.2 h
 new_is_entered pool (news.Constant constant) more i is short sound h = (constant_is_entered pool constant more i is short sound h).grown

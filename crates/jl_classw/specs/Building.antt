@@ -83,6 +83,10 @@ member_entered pool kind class name desc = do
   member ← name_and_type_entered owner.0 name desc
   entered member.0 (member_entry kind owner.1 member.1)
 
+-- what an entry of this tag refers to, which is 9, 10 or 11 (JVMS 4.4-A)
+abbrev pub kind_of : ℕ → MemberKind
+kind_of tag = if tag == 9 then kinds.Field else if tag == 10 then kinds.Method else kinds.InterfaceMethod
+
 abbrev pub constant_entered : List Entry → Constant → Result (List Entry × ℕ) WriteFault
 constant_entered pool (constants.Int n) = entered pool (entries.Integer (cast_unsigned w32 n))
 constant_entered pool (constants.Long n) = entered pool (entries.Long (cast_unsigned w64 n))
@@ -90,7 +94,7 @@ constant_entered pool (constants.Text units) = string_entered pool units
 
 abbrev pub new_entered : List Entry → NewEntry → Result (List Entry × ℕ) WriteFault
 new_entered pool (news.Class name) = class_entered pool name
-new_entered pool (news.Member kind class name desc) = member_entered pool kind class name desc
+new_entered pool (news.Member tag class name desc) = member_entered pool (kind_of tag) class name desc
 new_entered pool (news.Constant constant) = constant_entered pool constant
 
 -- ---- what members need
@@ -131,6 +135,11 @@ code_entered pool None = Ok pool
 code_entered pool (Some code) = some_code_entered pool code
 
 -- ---- the calls
+
+-- a superclass, of which an empty name is none
+abbrev pub unless_empty : List ℕ → Option (List ℕ)
+unless_empty [] = None
+unless_empty (byte ∷ bytes) = Some (byte ∷ bytes)
 
 -- a class with these parts and no members, which has minor version 0
 unfoldable pub new_class : ℕ → ℕ → List ℕ → Option (List ℕ) → Result Class WriteFault

@@ -48,8 +48,14 @@ IsShortConstant _ = ⊤
 
 abbrev pub IsShortEntry : NewEntry → Type 0
 IsShortEntry (news.Class name) = IsShort name
-IsShortEntry (news.Member kind class name desc) = IsShort class × IsShort name × IsShort desc
+IsShortEntry (news.Member tag class name desc) = IsShort class × IsShort name × IsShort desc
 IsShortEntry (news.Constant constant) = IsShortConstant constant
+
+-- a member has the tag of an entry that refers to one (JVMS 4.4-A)
+abbrev pub IsTagged : NewEntry → Type 0
+IsTagged (news.Class name) = ⊤
+IsTagged (news.Member tag class name desc) = (tag ≡ 9) ⊎ ((tag ≡ 10) ⊎ (tag ≡ 11))
+IsTagged (news.Constant constant) = ⊤
 
 -- the tag of the entry of a constant (JVMS 4.4-A)
 abbrev pub tag_of_constant : Constant → ℕ
@@ -84,7 +90,7 @@ IsFit (constants.Text units) = ⊤
 -- what an entry says is UTF-8, and its number fits
 abbrev pub IsSound : NewEntry → Type 0
 IsSound (news.Class name) = IsUtf8 name
-IsSound (news.Member kind class name desc) = IsUtf8 class × IsUtf8 name × IsUtf8 desc
+IsSound (news.Member tag class name desc) = IsUtf8 class × IsUtf8 name × IsUtf8 desc
 IsSound (news.Constant constant) = IsFit constant
 
 -- the numbers of a code fit their types

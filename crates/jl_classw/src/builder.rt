@@ -1,5 +1,7 @@
 //! Making a class part by part.
 
+mod calls;
+
 ghost use Rattle.std.specs.Prelude.{◌&&◌, ◌≡◌, ◌<◌, ◌++◌, [], ◌∷◌, length, ℕ, List, false, is_some, map, OnOk, OnErr, IfOk, IsTrue, IsOkUnless, ◌⊎◌};
 ghost use Rattle.std.specs.Option.{option_copied};
 ghost use Rattle.std.specs.List.{list_any};
@@ -12,7 +14,7 @@ ghost use Rattle.jl_class.specs.declared.member.MethodDecl.{MethodDecl};
 ghost use Rattle.jl_class.specs.Meaning.{field_key, method_key, is_member_among, are_class_flags, are_field_flags, are_method_flags, is_interface, may_extend, names_method_with, describes_a_field, describes_method_with, has_code};
 ghost use Rattle.jl_class.specs.Spelling.{IsClass};
 ghost use Rattle.jl_classw.specs.Faults.{told};
-ghost use Rattle.jl_classw.specs.Built.{IsSuper, IsShortEntry, MayHave, IsSmall};
+ghost use Rattle.jl_classw.specs.Built.{IsSuper, IsShortEntry, IsTagged, MayHave, IsSmall};
 ghost use Rattle.jl_classw.specs.Building.{new_class, with_entry, with_interface, with_field, with_method};
 
 use crate::entering::{enter_class, enter_new};
@@ -57,13 +59,9 @@ impl Model for ClassBuilder {
 }
 
 impl ClassBuilder {
-    /// A class with no members, by its major version, its flags, its name in internal form and its
-    /// superclass, none for `java/lang/Object` (JVMS 4.1). `are_class_flags`, `is_class_name`, `is_short`
-    /// and `may_extend` test the conditions.
-    ///
-    /// Only memory can be wanting: so few entries fit a pool.
+    /// A class with no members.
     #[tactic(auto, unfolding(crate::specs::Building::new_class))]
-    pub fn new(
+    fn begun(
         alloc: Global,
         major: u16,
         flags: u16,
@@ -102,7 +100,8 @@ impl ClassBuilder {
     /// 0 among them. On any error the class is as it was.
     #[tactic(auto, unfolding(crate::specs::Building::with_entry))]
     pub fn entry(&mut self, entry: NewEntry) -> Result<u16, WriteFault>
-        requires { IsShortEntry entry }
+        requires short { IsShortEntry entry }
+        requires tag { IsTagged entry }
         ensures exact { Gives told (λ i. (self.new, i)) result (with_entry self.old entry) }
         ensures err { OnErr result (self.new ≡ self.old) }
     {
@@ -111,12 +110,9 @@ impl ClassBuilder {
         Ok(index)
     }
 
-    /// Names one more interface (JVMS 4.1). `is_class_name` and `is_short` test the conditions.
-    ///
-    /// `TooMany` comes where the class has 65,535 interfaces already, with `interfaces`, or else where the
-    /// pool has no room for what is new, with `pool`. On any error the class is as it was.
+    /// Names one more interface.
     #[tactic(auto, unfolding(crate::specs::Building::with_interface))]
-    pub fn interface(&mut self, name: &Name) -> Result<(), WriteFault>
+    fn interface_named(&mut self, name: &Name) -> Result<(), WriteFault>
         requires name { IsTrue (names_a_class name.now) }
         requires short { IsShort name.now }
         ensures exact { Gives told (λ _. self.new) result (with_interface self.old name.now) }
@@ -131,13 +127,9 @@ impl ClassBuilder {
         Ok(())
     }
 
-    /// Adds a field (JVMS 4.5), with the value that it is set to, if any (JVMS 4.7.2). `are_field_flags`,
-    /// `is_field_name`, `describes_a_field`, `is_short`, `has_field` and `may_have` test the conditions.
-    ///
-    /// `TooMany` comes where the class has 65,535 fields already, with `fields`, or else where the pool has
-    /// no room for what is new, with `pool`. On any error the class is as it was.
+    /// Adds a field.
     #[tactic(auto, unfolding(crate::specs::Building::with_field))]
-    pub fn field(
+    fn field_named(
         &mut self,
         flags: u16,
         name: &Name,
@@ -169,15 +161,9 @@ impl ClassBuilder {
         Ok(())
     }
 
-    /// Adds a method (JVMS 4.6), with code exactly where it is neither native nor abstract.
-    /// `are_method_flags`, `names_method`, `describes_method`, `is_short`, `has_method`, `has_code` and
-    /// `is_small` test the conditions.
-    ///
-    /// `TooMany` comes where the class has 65,535 methods already, with `methods`, or else where the code has
-    /// more than 65,535 handlers, with `handlers`, or else where the pool has no room for what is new, with
-    /// `pool`. On any error the class is as it was.
+    /// Adds a method.
     #[tactic(auto, unfolding(crate::specs::Building::with_method))]
-    pub fn method(
+    fn method_named(
         &mut self,
         flags: u16,
         name: &Name,
@@ -235,10 +221,12 @@ impl ClassBuilder {
     }
 
     /// The class, with its members in the order in which they were added. It can be written.
-    pub fn finish(self) -> ClassDecl
-        ensures same { result ≡ self }
+    pub fn finish(self) -> Result<ClassDecl, WriteFault>
+        ensures same { IfOk result (λ c. c ≡ self) }
         // Some file declares it.
-        ensures declared { (bytes : List ℕ) × IsClass bytes result }
+        ensures declared { IfOk result (λ c. (bytes : List ℕ) × IsClass bytes c) }
+        // No other error comes.
+        ensures memory { IsOkUnless result WriteFault.NoMemory }
     {
         let ClassBuilder {
             major,
@@ -251,7 +239,7 @@ impl ClassBuilder {
             entries,
             ..
         } = self;
-        ClassDecl::from_parts(
+        Ok(ClassDecl::from_parts(
             (major, 0),
             flags,
             name,
@@ -260,7 +248,7 @@ impl ClassBuilder {
             Items::from_vec(fields),
             Items::from_vec(methods),
             Pool::from_entries(entries),
-        )
+        ))
     }
 }
 

@@ -1,17 +1,19 @@
 //! The conditions of a builder's calls, as tests that its callers can make.
 
-ghost use Rattle.std.specs.Prelude.{◌≡◌, ◌↔◌, IfOk, IsTrue, Ok, Some, None};
-ghost use Rattle.std.specs.Option.{option_copied};
+ghost use Rattle.std.specs.Prelude.{◌≡◌, ◌↔◌, IfOk, IsTrue, IsUtf8, Ok, Some, None};
 ghost use Rattle.jl_logic.specs.Answers.{Gives};
 ghost use Rattle.jl_pool.specs.Builder.{IsShort};
 ghost use Rattle.jl_class.specs.Meaning as meaning;
 ghost use Rattle.jl_classw.specs.Faults.{told};
-ghost use Rattle.jl_classw.specs.Built.{AreShortFrames, IsSmall};
+ghost use Rattle.jl_classw.specs.Built.{AreShortFrames, IsSmall, IsSuper};
+ghost use Rattle.jl_classw.specs.Building.{unless_empty};
 
 use crate::fault::WriteFault;
 use bitflags::Flags;
 use jl_class::CodeBytes;
-use jl_names::{Descriptor, TextFault, bytes_of, descriptor, is_method_name, utf16_of};
+use jl_names::{
+    Descriptor, TextFault, bytes_of, descriptor, is_class_name, is_method_name, utf16_of,
+};
 use jl_prim::{AccessFlags, Items, Name};
 use std::alloc::Global;
 
@@ -23,7 +25,9 @@ const MOST_CODE: usize = 4_194_304;
 
 /// Whether a text is short enough for a pool: at most 65,535 bytes (JVMS 4.4.7).
 pub fn is_short(alloc: Global, text: &Name) -> Result<bool, WriteFault>
-    ensures { IfOk result (λ b. IsTrue b ↔ IsShort text.now) }
+    ensures short { IfOk result (λ b. IsTrue b ↔ IsShort text.now) }
+    // A name is a text.
+    ensures utf8 { IfOk result (λ _. IsUtf8 text.now) }
 {
     let units = utf16_of(alloc, text.as_str())?;
     let bytes = bytes_of(alloc, units.as_slice())?;
@@ -42,15 +46,25 @@ pub fn are_class_flags(flags: u16) -> bool
         && !flags.contains(AccessFlags::MODULE)
 }
 
-/// Whether a class with these flags and this name may have the superclass. Only `java/lang/Object` has
-/// none, and that of an interface is `java/lang/Object`.
-pub fn may_extend(flags: u16, name: &Name, super_name: Option<&Name>) -> bool
-    ensures { result ≡ meaning.may_extend flags name.now (option_copied super_name.entry) }
+/// Whether a superclass, empty for none, has a short name in internal form.
+pub fn is_superclass(alloc: Global, super_name: &Name) -> Result<bool, WriteFault>
+    ensures { IfOk result (λ b. IsTrue b ↔ IsSuper (unless_empty super_name.now)) }
+{
+    match super_name.as_bytes() {
+        [] => Ok(true),
+        [_, ..] => Ok(is_class_name(super_name.as_bytes()) && is_short(alloc, super_name)?),
+    }
+}
+
+/// Whether a class with these flags and this name may have the superclass, empty for none. Only
+/// `java/lang/Object` has none, and that of an interface is `java/lang/Object`.
+pub fn may_extend(flags: u16, name: &Name, super_name: &Name) -> bool
+    ensures { result ≡ meaning.may_extend flags name.now (unless_empty super_name.now) }
 {
     let is_interface = AccessFlags::from_bits_retain(flags).contains(AccessFlags::INTERFACE);
-    match super_name {
-        None => name.as_str() == "java/lang/Object" && !is_interface,
-        Some(super_name) => !is_interface || super_name.as_str() == "java/lang/Object",
+    match super_name.as_bytes() {
+        [] => name.as_str() == "java/lang/Object" && !is_interface,
+        [_, ..] => !is_interface || super_name.as_str() == "java/lang/Object",
     }
 }
 
@@ -143,9 +157,7 @@ pub fn is_small(code: &Option<CodeBytes>) -> bool
 {
     match code {
         None => true,
-        Some(code) => {
-            code.code.len() <= MOST_CODE && are_small_frames(&code.frames)
-        }
+        Some(code) => { code.code.len() <= MOST_CODE && are_small_frames(&code.frames) }
     }
 }
 

@@ -209,6 +209,16 @@ fn enter_member(
     enter(pool, added, member_entry(kind, owner, member))
 }
 
+fn kind_of(tag: u8) -> MemberKind
+    ensures { result ≡ building.kind_of tag }
+{
+    match tag {
+        9 => MemberKind::Field,
+        10 => MemberKind::Method,
+        _ => MemberKind::InterfaceMethod,
+    }
+}
+
 fn member_entry(kind: MemberKind, class: u16, name: u16) -> Entry
     ensures { result ≡ building.member_entry kind class name }
 {
@@ -250,9 +260,12 @@ pub fn enter_new(
 {
     match entry {
         NewEntry::Class(name) => enter_class(pool, added, &name),
-        NewEntry::Member(kind, class, name, desc) => {
-            enter_member(pool, added, kind, &class, &name, &desc)
-        }
+        NewEntry::Member {
+            tag,
+            class,
+            name,
+            desc,
+        } => enter_member(pool, added, kind_of(tag), &class, &name, &desc),
         NewEntry::Constant(constant) => enter_constant(pool, added, constant),
     }
 }

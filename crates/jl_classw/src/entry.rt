@@ -16,7 +16,7 @@ pub enum Constant {
 
 /// What a member is, by the entry that refers to it (JVMS 4.4.2).
 #[derive(Clone, Copy, Debug, PartialEq, Eq)]
-pub enum MemberKind {
+pub(crate) enum MemberKind {
     Field,
     /// A method of a class.
     Method,
@@ -29,7 +29,13 @@ pub enum MemberKind {
 pub enum NewEntry {
     /// A class, by its name in internal form.
     Class(Name),
-    /// A member: its kind, its class, its name and its descriptor.
-    Member(MemberKind, Name, Name, Name),
+    /// A member, by the tag of its entry (JVMS 4.4-A): 9 for a field, 10 for a method of a class and 11 for
+    /// a method of an interface.
+    Member {
+        tag: u8,
+        class: Name,
+        name: Name,
+        desc: Name,
+    },
     Constant(Constant),
 }

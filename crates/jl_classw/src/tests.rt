@@ -1,8 +1,8 @@
-ghost use Rattle.std.specs.Prelude.{IfOk};
+ghost use Rattle.std.specs.Prelude.{IfOk, IsUtf8};
 ghost use Rattle.jl_pool.specs.Builder.{IsShort};
 
 use super::*;
-use jl_class::CodeBytes;
+use jl_class::{ClassDecl, CodeBytes, read_class};
 use jl_names::{Units, is_class_name, is_field_name};
 use jl_prim::{Handler, Items, Name};
 use std::alloc::Global;
@@ -10,7 +10,8 @@ use std::test::*;
 
 /// A short text as a name.
 fn named(alloc: Global, text: &str) -> Result<Name, Fail>
-    ensures { IfOk result (λ name. IsShort name) }
+    ensures short { IfOk result (λ name. IsShort name) }
+    ensures utf8 { IfOk result (λ name. IsUtf8 name) }
 {
     let name = Name::from_text(alloc, text)?;
     if !is_short(alloc, &name)? {
@@ -24,13 +25,13 @@ fn begun(alloc: Global) -> Result<ClassBuilder, Fail> {
     let name = named(alloc, "p/A")?;
     let object = named(alloc, "java/lang/Object")?;
     if !is_class_name(name.as_bytes())
-        || !is_class_name(object.as_bytes())
+        || !is_superclass(alloc, &object)?
         || !are_class_flags(0x21)
-        || !may_extend(0x21, &name, Some(&object))
+        || !may_extend(0x21, &name, &object)
     {
         return Err(Fail::new("class"));
     }
-    Ok(ClassBuilder::new(alloc, 53, 0x21, &name, Some(&object))?)
+    Ok(ClassBuilder::new(alloc, 53, 0x21, name.as_bytes(), object.as_bytes())?)
 }
 
 fn with_interface(alloc: Global, b: &mut ClassBuilder, name: &str) -> Result<(), Fail> {
@@ -38,7 +39,7 @@ fn with_interface(alloc: Global, b: &mut ClassBuilder, name: &str) -> Result<(),
     if !is_class_name(name.as_bytes()) {
         return Err(Fail::new("interface"));
     }
-    Ok(b.interface(&name)?)
+    Ok(b.interface(name.as_bytes())?)
 }
 
 fn with_field(
@@ -59,7 +60,7 @@ fn with_field(
     {
         return Err(Fail::new("field"));
     }
-    Ok(b.field(flags, &name, &desc, constant)?)
+    Ok(b.field(flags, name.as_bytes(), desc.as_bytes(), constant)?)
 }
 
 fn with_method(
@@ -81,7 +82,7 @@ fn with_method(
     {
         return Err(Fail::new("method"));
     }
-    Ok(b.method(flags, &name, &desc, code)?)
+    Ok(b.method(flags, name.as_bytes(), desc.as_bytes(), code)?)
 }
 
 fn code(alloc: Global) -> Result<CodeBytes, Fail> {
@@ -137,7 +138,12 @@ fn field_index(alloc: Global, b: &mut ClassBuilder) -> Result<u16, Fail> {
     let class = named(alloc, "p/A")?;
     let name = named(alloc, "x")?;
     let desc = named(alloc, "I")?;
-    Ok(b.entry(NewEntry::Member(MemberKind::Field, class, name, desc))?)
+    Ok(b.entry(NewEntry::Member {
+        tag: 9,
+        class,
+        name,
+        desc,
+    })?)
 }
 
 fn expected<'a>() -> &'a [u8] {
@@ -180,14 +186,23 @@ fn expected<'a>() -> &'a [u8] {
         \x00\x00"
 }
 
+/// Whether bytes are read as a class that is shown as this one.
+fn is_read_so(alloc: Global, bytes: &[u8], class: &ClassDecl) -> Result<bool, Fail> {
+    match read_class(alloc, bytes) {
+        Ok(read) => Ok(format!(in alloc; "{read:?}")? == format!(in alloc; "{class:?}")?),
+        Err(_) => Ok(false),
+    }
+}
+
 #[test]
 fn a_class_is_written(rt: HostRuntime) -> Result<(), Fail> {
     let mut b = filled(rt.alloc())?;
     assert_eq!(rt; field_index(rt.alloc(), &mut b)?, 25);
     assert_eq!(rt; field_index(rt.alloc(), &mut b)?, 25);
-    let class = b.finish();
+    let class = b.finish()?;
     let bytes = write_class(rt.alloc(), &class)?;
     assert_eq!(rt; bytes.as_slice(), expected());
+    assert!(rt; is_read_so(rt.alloc(), &bytes, &class)?);
     Ok(())
 }
 
@@ -200,11 +215,11 @@ fn many_interfaces(alloc: Global) -> Result<(bool, usize, usize), Fail> {
         return Err(Fail::new("interface"));
     }
     for _ in 0..65535 {
-        b.interface(&name)?;
+        b.interface(name.as_bytes())?;
     }
     let is_refused =
-        matches!(b.interface(&name), Err(WriteFault::TooMany(table)) if table.as_str() == "interfaces");
-    let class = b.finish();
+        matches!(b.interface(name.as_bytes()), Err(WriteFault::TooMany(table)) if table.as_str() == "interfaces");
+    let class = b.finish()?;
     Ok((
         is_refused,
         class.interfaces().len(),

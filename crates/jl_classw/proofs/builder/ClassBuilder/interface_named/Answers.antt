@@ -1,6 +1,6 @@
 use Rattle.std.proofs.Common.{◌<◌, arith, length}
 use Rattle.jl_classw.proofs.BuiltLaws.{interface_kept}
-use Rattle.jl_classw.proofs.builder.ClassBuilder.interface.Goals as goal
+use Rattle.jl_classw.proofs.builder.ClassBuilder.interface_named.Goals as goal
 
 pub invariant_of-self-2 : goal.invariant_of-self-2
 invariant_of-self-2 c =

@@ -3,7 +3,7 @@ use Rattle.jl_class.specs.Classes.{Class}
 use Rattle.jl_class.specs.Meaning.{is_member_among, method_key}
 use Rattle.jl_classw.specs.Building.{has_many_handlers}
 use Rattle.jl_classw.proofs.BuiltLaws.{method_kept}
-use Rattle.jl_classw.proofs.builder.ClassBuilder.method.Goals as goal
+use Rattle.jl_classw.proofs.builder.ClassBuilder.method_named.Goals as goal
 
 pub invariant_of-self-2 : goal.invariant_of-self-2
 invariant_of-self-2 c =

@@ -2,7 +2,7 @@ use Rattle.std.proofs.Common.{◌≡◌, ◌<◌, true, false, map, length, sym,
 use Rattle.jl_class.specs.Classes.{Class}
 use Rattle.jl_class.specs.Meaning.{are_field_flags, is_interface, is_member_among, field_key}
 use Rattle.jl_classw.proofs.BuiltLaws.{field_kept}
-use Rattle.jl_classw.proofs.builder.ClassBuilder.field.Goals as goal
+use Rattle.jl_classw.proofs.builder.ClassBuilder.field_named.Goals as goal
 
 pub invariant_of-self-2 : goal.invariant_of-self-2
 invariant_of-self-2 c =
