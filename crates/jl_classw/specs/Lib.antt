@@ -1,0 +1,4 @@
+pub mod Building
+pub mod Built
+pub mod Faults
+pub mod Writing

@@ -1,0 +1,321 @@
+//! Making a class part by part.
+
+mod calls;
+
+ghost use Rattle.std.specs.Prelude.{◌&&◌, ◌≡◌, ◌<◌, ◌++◌, [], ◌∷◌, length, ℕ, List, false, is_some, map, OnOk, OnErr, IfOk, IsTrue, IsOkUnless, ◌⊎◌};
+ghost use Rattle.std.specs.Option.{option_copied};
+ghost use Rattle.std.specs.List.{list_any};
+ghost use Rattle.jl_logic.specs.Answers.{Gives};
+ghost use Rattle.jl_logic.specs.Order.{is_text};
+ghost use Rattle.jl_names.specs.Names.{names_a_class, names_a_field};
+ghost use Rattle.jl_pool.specs.Builder.{IsShort};
+ghost use Rattle.jl_class.specs.declared.member.FieldDecl.{FieldDecl};
+ghost use Rattle.jl_class.specs.declared.member.MethodDecl.{MethodDecl};
+ghost use Rattle.jl_class.specs.Meaning.{field_key, method_key, is_member_among, are_class_flags, are_field_flags, are_method_flags, is_interface, may_extend, names_method_with, describes_a_field, describes_method_with, has_code};
+ghost use Rattle.jl_class.specs.Spelling.{IsClass};
+ghost use Rattle.jl_classw.specs.Faults.{told};
+ghost use Rattle.jl_classw.specs.Built.{IsSuper, IsShortEntry, IsTagged, MayHave, IsSmall};
+ghost use Rattle.jl_classw.specs.Building.{new_class, with_entry, with_interface, with_field, with_method};
+
+use crate::entering::{enter_class, enter_new};
+use crate::entry::{Constant, NewEntry};
+use crate::fault::{WriteFault, too_many};
+use crate::needs::{enter_code, enter_name, enter_optional, enter_super, has_many_handlers};
+use bitflags::Flags;
+use jl_class::{ClassDecl, CodeBytes, FieldDecl, MethodDecl};
+use jl_pool::{Entry, Pool};
+use jl_prim::{AccessFlags, Copied, Items, Name};
+use std::alloc::Global;
+use std::marker::Model;
+
+/// The most interfaces, fields and methods that a class has, each (JVMS 4.1).
+const MOST_ROWS: usize = 65535;
+
+/// A class that is being made, which contracts see as the class that it is so far. Its minor version is 0,
+/// and its pool has each entry once.
+#[derive(Drop)]
+pub struct ClassBuilder {
+    alloc: Global,
+    major: u16,
+    flags: u16,
+    name: Name,
+    super_name: Option<Name>,
+    interfaces: Vec<Name>,
+    fields: Vec<FieldDecl>,
+    methods: Vec<MethodDecl>,
+    entries: Vec<Entry>,
+}
+
+impl Model for ClassBuilder {
+    ghost use Rattle.std.specs.Prelude.{◌<◌, length};
+    ghost use Rattle.jl_class.specs.Classes.{Class};
+    ghost use Rattle.jl_classw.specs.Built.{IsBuilt};
+
+    ghost Value = { Class };
+
+    ghost view = { λ b. record { major = b.major; minor = 0; flags = b.flags; name = b.name; super_name = b.super_name; interfaces = b.interfaces.items; fields = b.fields.items; methods = b.methods.items; pool = b.entries.items } };
+
+    ghost invariant = { λ b. (length b.entries.items < 65536) × IsBuilt (record { major = b.major; minor = 0; flags = b.flags; name = b.name; super_name = b.super_name; interfaces = b.interfaces.items; fields = b.fields.items; methods = b.methods.items; pool = b.entries.items }) };
+}
+
+impl ClassBuilder {
+    /// A class with no members.
+    #[tactic(auto, unfolding(crate::specs::Building::new_class))]
+    fn begun(
+        alloc: Global,
+        major: u16,
+        flags: u16,
+        this: &Name,
+        super_name: Option<&Name>,
+    ) -> Result<ClassBuilder, WriteFault>
+        requires version { (major ≡ 53) ⊎ (major ≡ 54) }
+        requires flags { IsTrue (are_class_flags flags) }
+        requires name { IsTrue (names_a_class this.now) }
+        requires short { IsShort this.now }
+        requires superclass { IsSuper (option_copied super_name) }
+        requires extends { IsTrue (may_extend flags this.now (option_copied super_name)) }
+        ensures { Gives told (λ b. b) result (new_class major flags this.now (option_copied super_name.entry)) }
+    {
+        let mut first = Vec::new(alloc);
+        first.push(Entry::Unused)?;
+        let (added, _) = enter_class(&first, Vec::new(alloc), this)?;
+        let (added, _) = enter_super(&first, added, super_name)?;
+        Ok(ClassBuilder {
+            alloc,
+            major,
+            flags,
+            name: this.copy()?,
+            super_name: copied(super_name)?,
+            interfaces: Vec::new(alloc),
+            fields: Vec::new(alloc),
+            methods: Vec::new(alloc),
+            entries: appended(first, added)?,
+        })
+    }
+
+    /// Enters an entry behind those that it needs, and answers its index. What is there already is not
+    /// entered again, and keeps its index. `is_short` tests the condition on each text.
+    ///
+    /// `TooMany("pool")` comes where the pool would have more than 65,535 entries, the unused one of index
+    /// 0 among them. On any error the class is as it was.
+    #[tactic(auto, unfolding(crate::specs::Building::with_entry))]
+    pub fn entry(&mut self, entry: NewEntry) -> Result<u16, WriteFault>
+        requires short { IsShortEntry entry }
+        requires tag { IsTagged entry }
+        ensures exact { Gives told (λ i. (self.new, i)) result (with_entry self.old entry) }
+        ensures err { OnErr result (self.new ≡ self.old) }
+    {
+        let (mut added, index) = enter_new(&self.entries, Vec::new(self.alloc), entry)?;
+        self.entries.append(&mut added)?;
+        Ok(index)
+    }
+
+    /// Names one more interface.
+    #[tactic(auto, unfolding(crate::specs::Building::with_interface))]
+    fn interface_named(&mut self, name: &Name) -> Result<(), WriteFault>
+        requires name { IsTrue (names_a_class name.now) }
+        requires short { IsShort name.now }
+        ensures exact { Gives told (λ _. self.new) result (with_interface self.old name.now) }
+        ensures err { OnErr result (self.new ≡ self.old) }
+    {
+        if self.interfaces.len() >= MOST_ROWS {
+            return too_many(self.alloc, "interfaces");
+        }
+        let (added, _) = enter_class(&self.entries, Vec::new(self.alloc), name)?;
+        let row = name.copy()?;
+        put(&mut self.entries, added, &mut self.interfaces, row)?;
+        Ok(())
+    }
+
+    /// Adds a field.
+    #[tactic(auto, unfolding(crate::specs::Building::with_field))]
+    fn field_named(
+        &mut self,
+        flags: u16,
+        name: &Name,
+        desc: &Name,
+        constant: Option<Constant>,
+    ) -> Result<(), WriteFault>
+        requires flags { IsTrue (are_field_flags (is_interface self.old.flags) flags) }
+        requires name { IsTrue (names_a_field name.now) }
+        requires desc { IsTrue (describes_a_field desc.now) }
+        requires short { IsShort name.now × IsShort desc.now }
+        requires fresh { is_member_among (record { name = name.now; desc = desc.now }) (map field_key self.old.fields) ≡ false }
+        requires constant { MayHave flags desc.now constant }
+        ensures exact { Gives told (λ _. self.new) result (with_field self.old flags name.now desc.now constant) }
+        ensures err { OnErr result (self.new ≡ self.old) }
+    {
+        if self.fields.len() >= MOST_ROWS {
+            return too_many(self.alloc, "fields");
+        }
+        let added = enter_name(&self.entries, Vec::new(self.alloc), name)?;
+        let added = enter_name(&self.entries, added, desc)?;
+        let (added, constant) = enter_optional(&self.entries, added, constant)?;
+        let field = FieldDecl {
+            flags,
+            name: name.copy()?,
+            desc: desc.copy()?,
+            constant,
+        };
+        put(&mut self.entries, added, &mut self.fields, field)?;
+        Ok(())
+    }
+
+    /// Adds a method.
+    #[tactic(auto, unfolding(crate::specs::Building::with_method))]
+    fn method_named(
+        &mut self,
+        flags: u16,
+        name: &Name,
+        desc: &Name,
+        code: Option<CodeBytes>,
+    ) -> Result<(), WriteFault>
+        requires flags { IsTrue (are_method_flags flags) }
+        requires name { IsTrue (names_method_with flags name.now) }
+        requires desc { IsTrue (describes_method_with name.now desc.now) }
+        requires short { IsShort name.now × IsShort desc.now }
+        requires fresh { is_member_among (record { name = name.now; desc = desc.now }) (map method_key self.old.methods) ≡ false }
+        requires has { is_some code ≡ has_code flags }
+        requires small { IsSmall code }
+        ensures exact { Gives told (λ _. self.new) result (with_method self.old flags name.now desc.now code) }
+        ensures err { OnErr result (self.new ≡ self.old) }
+    {
+        if self.methods.len() >= MOST_ROWS {
+            return too_many(self.alloc, "methods");
+        }
+        if has_many_handlers(&code) {
+            return too_many(self.alloc, "handlers");
+        }
+        let added = enter_name(&self.entries, Vec::new(self.alloc), name)?;
+        let added = enter_name(&self.entries, added, desc)?;
+        let added = enter_code(&self.entries, added, &code)?;
+        let method = MethodDecl {
+            flags,
+            name: name.copy()?,
+            desc: desc.copy()?,
+            code,
+        };
+        put(&mut self.entries, added, &mut self.methods, method)?;
+        Ok(())
+    }
+
+    /// Whether it is an interface.
+    pub fn is_interface(&self) -> bool
+        ensures { result ≡ is_interface self.now.flags }
+    {
+        AccessFlags::from_bits_retain(self.flags).contains(AccessFlags::INTERFACE)
+    }
+
+    /// Whether a field of this name and descriptor is there.
+    pub fn has_field(&self, name: &Name, desc: &Name) -> bool
+        ensures { result ≡ is_member_among (record { name = name.now; desc = desc.now }) (map field_key self.now.fields) }
+    {
+        is_field_of(&self.fields, name, desc)
+    }
+
+    /// Whether a method of this name and descriptor is there.
+    pub fn has_method(&self, name: &Name, desc: &Name) -> bool
+        ensures { result ≡ is_member_among (record { name = name.now; desc = desc.now }) (map method_key self.now.methods) }
+    {
+        is_method_of(&self.methods, name, desc)
+    }
+
+    /// The class, with its members in the order in which they were added. It can be written.
+    pub fn finish(self) -> Result<ClassDecl, WriteFault>
+        ensures same { IfOk result (λ c. c ≡ self) }
+        // Some file declares it.
+        ensures declared { IfOk result (λ c. (bytes : List ℕ) × IsClass bytes c) }
+        // No other error comes.
+        ensures memory { IsOkUnless result WriteFault.NoMemory }
+    {
+        let ClassBuilder {
+            major,
+            flags,
+            name,
+            super_name,
+            interfaces,
+            fields,
+            methods,
+            entries,
+            ..
+        } = self;
+        Ok(ClassDecl::from_parts(
+            (major, 0),
+            flags,
+            name,
+            super_name,
+            Items::from_vec(interfaces),
+            Items::from_vec(fields),
+            Items::from_vec(methods),
+            Pool::from_entries(entries),
+        ))
+    }
+}
+
+fn is_field_of(fields: &[FieldDecl], name: &Name, desc: &Name) -> bool
+    ensures { result ≡ is_member_among (record { name = name.now; desc = desc.now }) (map field_key fields.now) }
+{
+    any_field(fields, name, desc)
+}
+
+fn any_field(fields: &[FieldDecl], name: &Name, desc: &Name) -> bool
+    ensures { result ≡ list_any (λ (f : FieldDecl). is_text name.now f.name && is_text desc.now f.desc) fields.now }
+{
+    fields.iter().any(|f| name.as_str() == f.name.as_str() && desc.as_str() == f.desc.as_str())
+}
+
+fn is_method_of(methods: &[MethodDecl], name: &Name, desc: &Name) -> bool
+    ensures { result ≡ is_member_among (record { name = name.now; desc = desc.now }) (map method_key methods.now) }
+{
+    any_method(methods, name, desc)
+}
+
+fn any_method(methods: &[MethodDecl], name: &Name, desc: &Name) -> bool
+    ensures { result ≡ list_any (λ (m : MethodDecl). is_text name.now m.name && is_text desc.now m.desc) methods.now }
+{
+    methods.iter().any(|m| name.as_str() == m.name.as_str() && desc.as_str() == m.desc.as_str())
+}
+
+fn copied(name: Option<&Name>) -> Result<Option<Name>, WriteFault>
+    ensures same { IfOk result (λ it. it ≡ option_copied name.entry) }
+    ensures memory { IsOkUnless result WriteFault.NoMemory }
+{
+    match name {
+        Some(name) => Ok(Some(name.copy()?)),
+        None => Ok(None),
+    }
+}
+
+fn appended(first: Vec<Entry>, added: Vec<Entry>) -> Result<Vec<Entry>, WriteFault>
+    ensures items { IfOk result (λ all. all.items ≡ first.items ++ added.items) }
+    ensures memory { IsOkUnless result WriteFault.NoMemory }
+{
+    let mut all = first;
+    let mut rest = added;
+    all.append(&mut rest)?;
+    Ok(all)
+}
+
+/// Puts entries behind a pool, and a row behind its table. Without memory both stay as they are.
+fn put<T: Drop>(
+    entries: &mut Vec<Entry>,
+    added: Vec<Entry>,
+    rows: &mut Vec<T>,
+    row: T,
+) -> Result<(), WriteFault>
+    ensures entries { OnOk result (entries.new.items ≡ entries.old.items ++ added.items) }
+    ensures rows { OnOk result (rows.new.items ≡ rows.old.items ++ row ∷ []) }
+    ensures same_entries { OnErr result (entries.new.items ≡ entries.old.items) }
+    ensures same_rows { OnErr result (rows.new.items ≡ rows.old.items) }
+    ensures memory { IsOkUnless result WriteFault.NoMemory }
+{
+    let mut rest = added;
+    rows.push(row)?;
+    match entries.append(&mut rest) {
+        Ok(()) => Ok(()),
+        Err(_) => {
+            rows.pop();
+            Err(WriteFault::NoMemory)
+        }
+    }
+}

@@ -1,0 +1,27 @@
+//! Making classes, and writing them as class files (JVMS 4): what is written is read as the same class.
+#![tactic(auto)]
+
+mod builder;
+mod conditions;
+mod constants;
+mod entering;
+mod entry;
+mod fault;
+mod members;
+mod names;
+mod needs;
+mod places;
+mod writing;
+
+pub use builder::ClassBuilder;
+pub use conditions::{
+    are_class_flags, are_field_flags, are_method_flags, describes_a_field, describes_method,
+    has_code, is_short, is_small, is_superclass, may_extend, names_method,
+};
+pub use constants::may_have;
+pub use entry::{Constant, NewEntry};
+pub use fault::WriteFault;
+pub use writing::write_class;
+
+#[cfg(test)]
+mod tests;
