@@ -1,3 +1,6 @@
 pub mod Each
+pub mod Standing
 pub mod Stands
 pub mod Steps
+pub mod Tables
+pub mod Whole
