@@ -4,17 +4,17 @@ use Rattle.std.specs.Prelude.{◌||◌, is_some}
 use Rattle.std.specs.List.{flat_map, AllByRecursion}
 use Rattle.std.proofs.lemmas.Bool.{ltb-false, le-ltb}
 use Rattle.std.proofs.lemmas.List.{append-nil, length-take-le}
-use Rattle.jl_reading.specs.Reading.{Stands, IsBytes, number_at, two, four}
+use Rattle.jl_reading.specs.Reading.{Stands, IsBytes, number_at, two, four, counted, steps_at}
 use Rattle.jl_reading.proofs.Stands.{Stands-taken, Stands-nothing, IsBytes-take}
-use Rattle.jl_reading.proofs.Steps.{bind_ok, guard_ok, ok_is}
+use Rattle.jl_reading.proofs.Steps.{bind_ok, guard_ok, ok_is, bind_to, cond_ok, cond_so}
 use Rattle.jl_pool.specs.declared.entry.Entry.{Entry}
 use Rattle.jl_pool.specs.Pool.{text_of}
 use Rattle.jl_class.specs.declared.fault.ClassFault.{ClassFault}
 use Rattle.jl_class.specs.declared.fault.ClassFault.TheVariants as faults
 use Rattle.jl_class.specs.Faults.{attribute_or}
-use Rattle.jl_class.specs.Spelling.{Attribute, AttributeFits, AreAttributes, AtMostOne, attribute_bytes, contents, counted, is_some_named, measured}
-use Rattle.jl_class.specs.Reading.{head_at, content_end, once_at, attribute_at, steps_at}
-use Rattle.jl_class.proofs.Standing.{Number, number_in, number_read, join, first, second, known, ends_at, cut_off, uncut, bind_to, cond_ok, cond_so}
+use Rattle.jl_class.specs.Spelling.{Attribute, AttributeFits, AreAttributes, AtMostOne, attribute_bytes, contents, is_some_named, measured}
+use Rattle.jl_class.specs.Reading.{head_at, content_end, once_at, attribute_at}
+use Rattle.jl_reading.proofs.Standing.{Number, number_in, number_read, join, first, second, known, ends_at, cut_off, uncut}
 
 -- ---- the name of an attribute
 

@@ -2,25 +2,21 @@
 use Rattle.std.proofs.Common.{◌≡◌, ℕ, ◌+◌, ◌-◌, ◌<◌, ◌≤◌, List, [], ◌∷◌, ◌++◌, length, take, drop, Bool, true, false, eqb, Option, Ok, refl, sym, ap, ◌∙◌, subst, arith}
 use Rattle.std.specs.Prelude.{◌&&◌}
 use Rattle.std.specs.List.{flat_map, AllByRecursion}
-use Rattle.std.proofs.lemmas.Bool.{eqb-true, eq-eqb}
+use Rattle.std.proofs.lemmas.Bool.{eqb-true, eq-eqb, and_parts}
 use Rattle.std.proofs.lemmas.List.{append-nil, drop_all, length-drop}
-use Rattle.jl_reading.specs.Reading.{Stands, IsBytes, number_at, two, four}
+use Rattle.jl_reading.specs.Reading.{Stands, IsBytes, number_at, two, four, counted}
 use Rattle.jl_reading.proofs.Stands.{Stands-from_parts, Stands-parts, Along, each_stands, each_again}
-use Rattle.jl_reading.proofs.Steps.{bind_ok, ok_is}
+use Rattle.jl_reading.proofs.Steps.{bind_ok, ok_is, bind_to, else_ok}
 use Rattle.jl_prim.specs.declared.declaration.Handler.{Handler}
 use Rattle.jl_pool.specs.declared.entry.Entry.{Entry}
 use Rattle.jl_class.specs.declared.fault.ClassFault.TheVariants as faults
 use Rattle.jl_class.specs.declared.member.CodeBytes.{CodeBytes}
 use Rattle.jl_class.specs.Faults.{cut_in}
 use Rattle.jl_class.specs.Meaning.{sets_field, names_frames}
-use Rattle.jl_class.specs.Spelling.{IsConstant, IsFrames, HandlerFits, IsCode, handler_bytes, code_bytes, counted, measured, attribute_bytes}
+use Rattle.jl_class.specs.Spelling.{IsConstant, IsFrames, HandlerFits, IsCode, handler_bytes, code_bytes, measured, attribute_bytes}
 use Rattle.jl_class.specs.Reading.{constant_at, handler_at, handlers_at, long_text_at, content_end, frames_at, inner_at, code_at}
-use Rattle.jl_class.proofs.Standing.{number_in, number_read, join, first, second, known, ends_at, bind_to, else_ok}
+use Rattle.jl_reading.proofs.Standing.{number_in, number_read, join, first, second, known, ends_at}
 use Rattle.jl_class.proofs.AttributeLaws.{Laws, Held, held_reads, passed_content, AllStand, attributes_stand, attributes_again}
-
-pub both : (a b : Bool) → (a && b) ≡ true → (a ≡ true) × (b ≡ true)
-both true b e = (refl, e)
-both false b e = absurd cc
 
 -- ---- constants
 
@@ -30,7 +26,7 @@ unfolding constant_at
 constant_stands flags desc pool place bytes at i b le e =
     let s = bind_ok (number_at (cut_in place) 2 bytes at) _ i e in
     let g = else_ok (eqb s.0.1 (length bytes) && sets_field flags desc pool s.0.0) (faults.Attribute place) (Ok s.0.0) i s.2 in
-    let t = both (eqb s.0.1 (length bytes)) (sets_field flags desc pool s.0.0) g.0 in
+    let t = and_parts (eqb s.0.1 (length bytes)) (sets_field flags desc pool s.0.0) g.0 in
     let n = number_in (cut_in place) 2 bytes at s.0 b s.1 in
     let stands = ends_at (length bytes) (eqb-true s.0.1 (length bytes) t.0) n.stands in
     subst (λ (k : ℕ). (content : List ℕ) × IsConstant flags desc pool content k × Stands bytes at content (length bytes)) (ok_is _ _ g.1) (two s.0.0, (n.small, refl, t.1), stands)

@@ -1,15 +1,15 @@
 -- A class file: what is read stands there, and what stands there is read.
 use Rattle.std.proofs.Common.{◌≡◌, ℕ, ◌+◌, ◌<◌, ◌≤◌, List, [], ◌∷◌, ◌++◌, length, drop, eqb, Bool, true, false, Option, None, Some, Result, Ok, Err, refl, sym, ap, subst, arith, inl, inr}
 use Rattle.std.specs.Prelude.{IsTrue, IfOk, ◌↔◌, ◌⊎◌, ◌||◌, position, ⊤}
-use Rattle.std.proofs.lemmas.Bool.{eqb-true, eq-eqb}
+use Rattle.std.proofs.lemmas.Bool.{eqb-true, eq-eqb, or_cases}
 use Rattle.std.proofs.lemmas.List.{append-nil, length-drop}
 use Rattle.jl_logic.specs.Answers.{Gives}
-use Rattle.jl_reading.specs.Reading.{Stands, IsBytes, number_at, two, four}
-use Rattle.jl_reading.proofs.Steps.{bind_ok, ok_is}
+use Rattle.jl_reading.specs.Reading.{Stands, IsBytes, number_at, two, four, counted}
+use Rattle.jl_reading.proofs.Steps.{bind_ok, ok_is, bind_to, not_ok, else_ok}
 use Rattle.jl_reading.proofs.Stands.{Along, Stands-from_parts}
 use Rattle.jl_pool.specs.declared.entry.Entry.{Entry}
 use Rattle.jl_pool.specs.declared.fault.PoolFault.{PoolFault}
-use Rattle.jl_pool.specs.Pool.{text_of}
+use Rattle.jl_pool.specs.Pool.{text_of, class_named}
 use Rattle.jl_pool.specs.Reading.{pool_at}
 use Rattle.jl_pool.specs.Spelling.{StandsPool}
 use Rattle.jl_pool.proofs.Whole.{pool_stands, pool_again}
@@ -19,11 +19,11 @@ use Rattle.jl_class.specs.declared.member.FieldDecl.{FieldDecl}
 use Rattle.jl_class.specs.declared.member.MethodDecl.{MethodDecl}
 use Rattle.jl_class.specs.Classes.{Class}
 use Rattle.jl_class.specs.Faults.{told, short, pool_or}
-use Rattle.jl_class.specs.Meaning.{is_interface, are_class_flags, class_named, super_named, may_extend, is_of_modules, names_nothing}
-use Rattle.jl_class.specs.Spelling.{Parts, HasName, IsClass, Attribute, is_some_named, contents, counted, member_bytes, attribute_bytes}
+use Rattle.jl_class.specs.Meaning.{is_interface, are_class_flags, super_named, may_extend, is_of_modules, names_nothing}
+use Rattle.jl_class.specs.Spelling.{Parts, HasName, IsClass, Attribute, is_some_named, contents, member_bytes, attribute_bytes}
 use Rattle.jl_class.specs.Reading.{front_at, outside_or, class_pool_at, flags_at, named_at, super_at, interfaces_at, fields_at, methods_at, in_file, nothing_at, others_at, class_of}
-use Rattle.jl_class.proofs.Standing.{number_in, number_read, join, first, second, known, ends_at, bind_to, not_ok, else_ok}
-use Rattle.jl_class.proofs.TableLaws.{EntryStands, EntryReads, Table, table_stands, table_reads}
+use Rattle.jl_reading.proofs.Standing.{number_in, number_read, join, first, second, known, ends_at}
+use Rattle.jl_reading.proofs.Tables.{EntryStands, EntryReads, Table, table_stands, table_reads}
 use Rattle.jl_class.proofs.AttributeLaws.{Laws, AllStand, attributes_stand, attributes_again}
 use Rattle.jl_class.proofs.MethodLaws.{flags_stand, flags_read, Named, name_stands, name_reads, fields_stand, fields_read, methods_stand, methods_read}
 
@@ -34,12 +34,8 @@ record Front (bytes : List ℕ) (x : (ℕ × ℕ) × ℕ) : Type 0 where
   stands : Stands bytes 0 (four 0xCAFEBABE ++ (two x.0.1 ++ two x.0.0)) x.1
   version : (x.0.0 ≡ 53) ⊎ (x.0.0 ≡ 54)
 
-either : (a b : Bool) → (a || b) ≡ true → (a ≡ true) ⊎ (b ≡ true)
-either true b e = inl refl
-either false b e = inr e
-
 is_version : (major : ℕ) → (eqb major 53 || eqb major 54) ≡ true → (major ≡ 53) ⊎ (major ≡ 54)
-is_version major e = elim (either (eqb major 53) (eqb major 54) e) [
+is_version major e = elim (or_cases (eqb major 53) (eqb major 54) e) [
   | inl a ↦ inl (eqb-true major 53 a)
   | inr a ↦ inr (eqb-true major 54 a)
 ]
@@ -289,24 +285,3 @@ class_reads bytes c i =
     let t8 = methods_read pool bytes p7 p8 p.methods c.methods d.methods s8 in
     let t9 = attributes_again short in_file names_nothing true nothing_at Never never_laws pool bytes p8 end p.attributes None (record { one = none_read pool p.attributes; allowed = λ _. refl }) d.attributes s9 in
     bind_to _ t1 (bind_to _ t2 (bind_to _ t3 (bind_to _ t4 (bind_to _ t5 (bind_to _ t6 (bind_to _ t7 (bind_to _ t8 (bind_to _ (bind_to _ t9.0 t9.1) (rw (eq-eqb end end refl) refl)))))))))
-
--- ---- what a call answers
-
-pub found_in : (bytes : List ℕ) (r : Result Class ClassFault) → IsBytes bytes → Gives told (λ (c : Class). c) r (class_of bytes) → IfOk r (λ c. IsClass bytes c)
-found_in bytes (Ok c) b g = class_stands bytes c b g
-found_in bytes (Err e) b g = tt
-
-pub only_in : (bytes : List ℕ) (r : Result Class ClassFault) → Gives told (λ (c : Class). c) r (class_of bytes) → (c : Class) → IsClass bytes c → Gives told (λ (c : Class). c) r (Ok c)
-only_in bytes r g c i = subst (λ (x : Result Class ClassFault). Gives told (λ (c : Class). c) r x) (class_reads bytes c i) g
-
-not_both : (r : Result Class ClassFault) (f : ClassFault) (c : Class) → r ≡ Err f → r ≡ Ok c → ⊥
-not_both (Ok x) f c e g = absurd cc
-not_both (Err x) f c e g = absurd cc
-
-fault_or : (bytes : List ℕ) (r : Result Class ClassFault) → IsBytes bytes → class_of bytes ≡ r → ((c : Class) → IsClass bytes c → ⊥) → (f : ClassFault) × (class_of bytes ≡ Err f)
-fault_or bytes (Ok c) b e none = absurd (none c (class_stands bytes c b e))
-fault_or bytes (Err f) b e none = (f, e)
-
--- there is a fault exactly where there is no class
-pub fault_or_class : (bytes : List ℕ) → IsBytes bytes → ((f : ClassFault) × (class_of bytes ≡ Err f)) ↔ ((c : Class) → IsClass bytes c → ⊥)
-fault_or_class bytes b = ((λ f c i. not_both (class_of bytes) f.0 c f.1 (class_reads bytes c i)), fault_or bytes (class_of bytes) b refl)

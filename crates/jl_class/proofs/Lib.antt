@@ -5,6 +5,3 @@ pub mod MemberLaws
 pub mod MethodLaws
 mod PlaceLaws
 mod Rows
-pub mod Standing
-mod StepLaws
-pub mod TableLaws

@@ -1,8 +1,8 @@
 -- Fields and methods: what is read stands there, and what stands there is read (JVMS 4.5, 4.6).
 use Rattle.std.proofs.Common.{◌≡◌, ℕ, ◌+◌, ◌<◌, List, [], ◌++◌, map, Bool, true, false, not, Option, None, Some, Ok, refl, sym, ap, ◌∙◌, subst}
 use Rattle.std.specs.Prelude.{◌&&◌, is_some, IsTrue}
-use Rattle.jl_reading.specs.Reading.{Stands, IsBytes, number_at, two}
-use Rattle.jl_reading.proofs.Steps.{bind_ok, guard_ok, ok_is}
+use Rattle.jl_reading.specs.Reading.{Stands, IsBytes, number_at, two, counted}
+use Rattle.jl_reading.proofs.Steps.{bind_ok, guard_ok, ok_is, bind_to, else_ok}
 use Rattle.jl_names.specs.Names.{names_a_field}
 use Rattle.jl_pool.specs.declared.entry.Entry.{Entry}
 use Rattle.jl_class.specs.declared.fault.ClassFault.TheVariants as faults
@@ -11,11 +11,12 @@ use Rattle.jl_class.specs.declared.member.FieldDecl.{FieldDecl}
 use Rattle.jl_class.specs.declared.member.MethodDecl.{MethodDecl}
 use Rattle.jl_class.specs.declared.member.MemberKey.{MemberKey}
 use Rattle.jl_class.specs.Faults.{short, name_or}
-use Rattle.jl_class.specs.Meaning.{are_field_flags, are_method_flags, has_code, text_that, names_method_with, describes_a_field, describes_method_with, field_key, method_key, is_member_among, names_constant_value, names_code}
-use Rattle.jl_class.specs.Spelling.{Member, IsConstant, IsCode, IsField, IsMethod, IsTable, HasName, attribute_bytes, member_bytes, counted}
+use Rattle.jl_class.specs.Meaning.{are_field_flags, are_method_flags, has_code, names_method_with, describes_a_field, describes_method_with, field_key, method_key, is_member_among, names_constant_value, names_code}
+use Rattle.jl_pool.specs.Pool.{text_that}
+use Rattle.jl_class.specs.Spelling.{Member, IsConstant, IsCode, IsField, IsMethod, IsTable, HasName, attribute_bytes, member_bytes}
 use Rattle.jl_class.specs.Reading.{flags_at, named_at, in_file, constant_at, constants_at, code_at, codes_at, field_at, fields_at, method_at, methods_at}
-use Rattle.jl_class.proofs.Standing.{Number, number_in, number_read, join, first, second, bind_to, else_ok}
-use Rattle.jl_class.proofs.TableLaws.{Row, EntryStands, EntryReads, Table, table_stands, table_reads}
+use Rattle.jl_reading.proofs.Standing.{Number, number_in, number_read, join, first, second}
+use Rattle.jl_reading.proofs.Tables.{Row, EntryStands, EntryReads, Table, table_stands, table_reads}
 use Rattle.jl_class.proofs.AttributeLaws.{AllStand, attributes_stand, attributes_again}
 use Rattle.jl_class.proofs.ContentLaws.{constant_laws, code_laws}
 use Rattle.jl_class.proofs.MemberLaws.{Apart, along_distinct, distinct_along}

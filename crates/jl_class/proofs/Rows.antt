@@ -1,7 +1,7 @@
 -- Worked rows: the definitions on small files.
 use Rattle.std.proofs.Common.{◌≡◌, ℕ, List, [], ◌∷◌, ◌++◌, None, Some, Ok, Err, true, false, refl}
 use Rattle.std.specs.Prelude.{codes}
-use Rattle.jl_reading.specs.Reading.{each_at}
+use Rattle.jl_reading.specs.Reading.{each_at, steps_at}
 use Rattle.jl_names.specs.Names.{parts}
 use Rattle.jl_names.specs.Text.{plain, has_no_lone_surrogate, units_read, units_from, unit_at}
 use Rattle.jl_pool.specs.Reading.{pool_at, entry_at, content_at, text_at, bits_at}
@@ -10,7 +10,7 @@ use Rattle.jl_pool.specs.declared.entry.Entry.TheVariants as entries
 use Rattle.jl_class.specs.declared.fault.ClassFault.TheVariants as faults
 use Rattle.jl_class.specs.Meaning.{are_class_flags, are_field_flags, are_method_flags, may_extend, names_method_with, names_constant_value}
 use Rattle.jl_class.specs.Spelling.{code_bytes, member_bytes, contents}
-use Rattle.jl_class.specs.Reading.{front_at, class_pool_at, flags_at, named_at, super_at, interfaces_at, fields_at, methods_at, others_at, steps_at, class_of, attribute_at, head_at, once_at, content_end, constant_at, constants_at, long_text_at, handlers_at, inner_at, code_at}
+use Rattle.jl_class.specs.Reading.{front_at, class_pool_at, flags_at, named_at, super_at, interfaces_at, fields_at, methods_at, others_at, class_of, attribute_at, head_at, once_at, content_end, constant_at, constants_at, long_text_at, handlers_at, inner_at, code_at}
 
 -- the bytes of p/A up to its flags, by the major version and the count of the pool
 abbrev front : ℕ → ℕ → List ℕ

@@ -7,10 +7,9 @@ use Rattle.jl_names.specs.declared.fault.TextFault.{TextFault}
 use Rattle.jl_names.specs.declared.types.Descriptor.{Descriptor}
 use Rattle.jl_names.specs.declared.types.Descriptor.TheVariants as descriptors
 use Rattle.jl_names.specs.Descriptors.{descriptor_read}
-use Rattle.jl_names.specs.Names.{names_a_class, names_a_method}
-use Rattle.jl_names.specs.Text.{plain, has_no_lone_surrogate}
+use Rattle.jl_names.specs.Names.{names_a_method}
 use Rattle.jl_pool.specs.declared.entry.Entry.{Entry}
-use Rattle.jl_pool.specs.Pool.{utf8_of, class_of, tag_of, entry_tag}
+use Rattle.jl_pool.specs.Pool.{paired_text, text_that, class_named, tag_of, entry_tag}
 use Rattle.jl_class.specs.declared.member.FieldDecl.{FieldDecl}
 use Rattle.jl_class.specs.declared.member.MethodDecl.{MethodDecl}
 use Rattle.jl_class.specs.declared.member.MemberKey.{MemberKey}
@@ -69,25 +68,6 @@ abbrev pub has_code : ℕ → Bool
 has_code flags = not (is_native flags || is_abstract flags)
 
 -- ---- names by the pool
-
--- the text of units among which no surrogate stands alone
-abbrev pub paired : List ℕ → Option (List ℕ)
-paired units = if has_no_lone_surrogate units then Some (plain units) else None
-
-abbrev pub paired_text : List Entry → ℕ → Option (List ℕ)
-paired_text pool i = option_and_then paired (utf8_of pool i)
-
--- a text that has a property
-abbrev pub that : (List ℕ → Bool) → List ℕ → Option (List ℕ)
-that is_right text = if is_right text then Some text else None
-
--- the text of a Utf8 index, which has a property
-abbrev pub text_that : (List ℕ → Bool) → List Entry → ℕ → Option (List ℕ)
-text_that is_right pool i = option_and_then (that is_right) (paired_text pool i)
-
--- the name that a Class index has
-abbrev pub class_named : List Entry → ℕ → Option (List ℕ)
-class_named pool i = option_and_then (text_that names_a_class pool) (class_of pool i)
 
 -- The superclass that an index has: none for 0, else the class.
 abbrev pub super_named : List Entry → ℕ → Option (Option (List ℕ))

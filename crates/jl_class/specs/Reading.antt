@@ -1,10 +1,10 @@
 -- Reading a class file from left to right, with the first fault that is met (JVMS 4.1).
 use Rattle.std.specs.Prelude.{ℕ, zero, suc, ◌+◌, ◌-◌, List, [], length, take, drop, map, Option, None, Some, Result, Ok, Err, Bool, true, not, ◌||◌, ◌&&◌, nat_lt, ◌==◌, is_some, position, ⊤, if◌then◌else◌}
-use Rattle.jl_reading.specs.Reading.{◌>>=◌, number_at, each_at}
+use Rattle.jl_reading.specs.Reading.{◌>>=◌, number_at, each_at, steps_at}
 use Rattle.jl_prim.specs.declared.declaration.Handler.{Handler}
 use Rattle.jl_names.specs.Names.{names_a_field}
 use Rattle.jl_pool.specs.declared.entry.Entry.{Entry}
-use Rattle.jl_pool.specs.Pool.{text_of}
+use Rattle.jl_pool.specs.Pool.{text_of, text_that, class_named}
 use Rattle.jl_pool.specs.Reading.{pool_at}
 use Rattle.jl_class.specs.declared.fault.ClassFault.{ClassFault}
 use Rattle.jl_class.specs.declared.fault.ClassFault.TheVariants as faults
@@ -13,7 +13,7 @@ use Rattle.jl_class.specs.declared.member.FieldDecl.{FieldDecl}
 use Rattle.jl_class.specs.declared.member.MethodDecl.{MethodDecl}
 use Rattle.jl_class.specs.Classes.{Class}
 use Rattle.jl_class.specs.Faults.{short, cut_in, pool_or, name_or, attribute_or}
-use Rattle.jl_class.specs.Meaning.{is_interface, are_class_flags, are_field_flags, are_method_flags, has_code, text_that, class_named, super_named, may_extend, is_of_modules, names_method_with, describes_a_field, describes_method_with, field_key, method_key, is_member_among, sets_field, names_constant_value, names_code, names_frames, names_nothing}
+use Rattle.jl_class.specs.Meaning.{is_interface, are_class_flags, are_field_flags, are_method_flags, has_code, super_named, may_extend, is_of_modules, names_method_with, describes_a_field, describes_method_with, field_key, method_key, is_member_among, sets_field, names_constant_value, names_code, names_frames, names_nothing}
 
 -- ---- up to the flags
 
@@ -92,13 +92,6 @@ attribute_at cut is_read may one pool bytes done at = do
   if is_read name.0 then once_at (cut at) may (one at) at bytes done name.1 else (do
     content ← content_end (cut at) bytes name.1
     Ok (done, content.1))
-
--- so many attributes, behind what was read so far
-unfoldable pub steps_at : {S : Type 0} → (S → ℕ → Result (S × ℕ) ClassFault) → ℕ → S → ℕ → Result (S × ℕ) ClassFault
-steps_at one zero done at = Ok (done, at)
-steps_at one (suc n) done at = do
-  x ← one done at
-  steps_at one n x.0 x.1
 
 -- what is not whole in a file is short at its place
 abbrev pub in_file : ℕ → ℕ → ClassFault

@@ -2,18 +2,19 @@
 use Rattle.std.specs.Prelude.{◌≡◌, ℕ, ◌<◌, List, [], ◌∷◌, ◌++◌, length, map, filter, position, Option, None, Some, IsTrue, Bool, false, is_some, ◌⊎◌, ⊤}
 use Rattle.std.specs.List.{flat_map, AllByRecursion}
 use Rattle.jl_logic.specs.Lists.{AreDistinct}
-use Rattle.jl_reading.specs.Reading.{Stands, two, four}
+use Rattle.jl_logic.specs.Lists.{Match}
+use Rattle.jl_reading.specs.Reading.{counted, Stands, two, four}
 use Rattle.jl_prim.specs.declared.declaration.Handler.{Handler}
 use Rattle.jl_names.specs.Names.{names_a_field}
 use Rattle.jl_pool.specs.declared.entry.Entry.{Entry}
-use Rattle.jl_pool.specs.Pool.{text_of}
+use Rattle.jl_pool.specs.Pool.{text_of, text_that, class_named}
 use Rattle.jl_pool.specs.Spelling.{StandsPool}
 use Rattle.jl_class.specs.declared.member.CodeBytes.{CodeBytes}
 use Rattle.jl_class.specs.declared.member.FieldDecl.{FieldDecl}
 use Rattle.jl_class.specs.declared.member.MethodDecl.{MethodDecl}
 use Rattle.jl_class.specs.declared.member.MemberKey.{MemberKey}
 use Rattle.jl_class.specs.Classes.{Class}
-use Rattle.jl_class.specs.Meaning.{is_interface, are_class_flags, are_field_flags, are_method_flags, has_code, text_that, class_named, super_named, may_extend, is_of_modules, names_method_with, describes_a_field, describes_method_with, field_key, method_key, sets_field, names_constant_value, names_code, names_frames}
+use Rattle.jl_class.specs.Meaning.{is_interface, are_class_flags, are_field_flags, are_method_flags, has_code, super_named, may_extend, is_of_modules, names_method_with, describes_a_field, describes_method_with, field_key, method_key, sets_field, names_constant_value, names_code, names_frames}
 
 -- ---- the parts of a file, by numbers
 
@@ -39,10 +40,6 @@ pub record Parts : Type 0 where
   pub attributes : List Attribute
 
 -- ---- their bytes
-
--- a count, and so many entries
-abbrev pub counted : {A : Type 0} → (A → List ℕ) → List A → List ℕ
-counted row_bytes rows = two (length rows) ++ flat_map row_bytes rows
 
 -- a length, and so many bytes
 abbrev pub measured : List ℕ → List ℕ
@@ -145,13 +142,6 @@ pub record IsMethod (pool : List Entry) (m : Member) (d : MethodDecl) : Type 0 w
   pub described : text_that (describes_method_with d.name) pool m.desc ≡ Some d.desc
   pub code : AtMostOne (IsCode pool) (contents pool names_code m.attributes) d.code
   pub has : is_some d.code ≡ has_code d.flags
-
--- one of these for each of those, in order
-abbrev pub Match : {A B : Type 0} → (A → B → Type 0) → List A → List B → Type 0
-Match R [] [] = ⊤
-Match R (a ∷ xs) (b ∷ ys) = R a b × Match R xs ys
-Match R [] (b ∷ ys) = ⊥
-Match R (a ∷ xs) [] = ⊥
 
 -- A table declares these members, no two of which have one name and descriptor.
 pub record IsTable {B : Type 0} (R : Member → B → Type 0) (key : B → MemberKey) (rows : List Member) (members : List B) : Type 0 where

@@ -4,7 +4,8 @@ ghost use Rattle.std.specs.Prelude.{◌≡◌, ◌≤◌, length, IfOk, None, tr
 ghost use Rattle.jl_logic.specs.Answers.{Gives};
 ghost use Rattle.jl_class.specs.Faults.{told, cut};
 ghost use Rattle.jl_class.specs.Meaning.{names_nothing};
-ghost use Rattle.jl_class.specs.Reading.{head_at, content_end, attribute_at, steps_at, in_file, nothing_at};
+ghost use Rattle.jl_class.specs.Reading.{head_at, content_end, attribute_at, in_file, nothing_at};
+ghost use Rattle.jl_reading.specs.Reading.{steps_at};
 ghost use Rattle.jl_class.specs.Reading as reading;
 
 use crate::fault::ClassFault;

@@ -1,12 +1,12 @@
 //! Code attributes (JVMS 4.7.3), with their StackMapTable attributes (JVMS 4.7.4).
 
 ghost use Rattle.std.specs.Prelude.{◌≡◌, ◌≤◌, [], length, drop, IfOk, Ok, None, true};
-ghost use Rattle.jl_reading.specs.Reading.{each_at};
+ghost use Rattle.jl_reading.specs.Reading.{each_at, steps_at};
 ghost use Rattle.jl_logic.specs.Answers.{Gives};
 ghost use Rattle.jl_class.specs.Faults.{told, cut_in};
 ghost use Rattle.jl_class.specs.Meaning.{names_frames};
 ghost use Rattle.jl_class.specs.Reading as reading;
-ghost use Rattle.jl_class.specs.Reading.{attribute_at, steps_at, frames_at};
+ghost use Rattle.jl_class.specs.Reading.{attribute_at, frames_at};
 
 use crate::attribute::{content, head};
 use crate::fault::ClassFault;

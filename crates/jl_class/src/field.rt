@@ -1,13 +1,13 @@
 //! Fields (JVMS 4.5) and their constants (JVMS 4.7.2).
 
 ghost use Rattle.std.specs.Prelude.{◌≡◌, ◌≤◌, [], length, map, IfOk, None, false, true};
-ghost use Rattle.jl_reading.specs.Reading.{each_at};
+ghost use Rattle.jl_reading.specs.Reading.{each_at, steps_at};
 ghost use Rattle.jl_logic.specs.Answers.{Gives};
 ghost use Rattle.jl_class.specs.Faults.{told};
 ghost use Rattle.jl_class.specs.Meaning as meaning;
 ghost use Rattle.jl_class.specs.Meaning.{field_key, is_member_among, names_constant_value};
 ghost use Rattle.jl_class.specs.Reading as reading;
-ghost use Rattle.jl_class.specs.Reading.{attribute_at, steps_at, in_file, constant_at};
+ghost use Rattle.jl_class.specs.Reading.{attribute_at, in_file, constant_at};
 
 use crate::attribute::{content, head};
 use crate::fault::ClassFault;

@@ -7,7 +7,8 @@ ghost use Rattle.jl_pool.specs.Reading.{pool_at};
 ghost use Rattle.jl_pool.specs.Spelling.{StandsPool};
 ghost use Rattle.jl_class.specs.Faults.{told, pool_or, short};
 ghost use Rattle.jl_class.specs.Meaning as meaning;
-ghost use Rattle.jl_class.specs.Meaning.{has_of_modules, class_named};
+ghost use Rattle.jl_class.specs.Meaning.{has_of_modules};
+ghost use Rattle.jl_pool.specs.Pool.{class_named};
 ghost use Rattle.jl_class.specs.Reading as reading;
 ghost use Rattle.jl_class.specs.Reading.{class_pool_at, named_at};
 

@@ -1,13 +1,13 @@
 //! Methods (JVMS 4.6).
 
 ghost use Rattle.std.specs.Prelude.{◌≡◌, ◌≤◌, [], length, map, IfOk, None, false};
-ghost use Rattle.jl_reading.specs.Reading.{each_at};
+ghost use Rattle.jl_reading.specs.Reading.{each_at, steps_at};
 ghost use Rattle.jl_logic.specs.Answers.{Gives};
 ghost use Rattle.jl_class.specs.Faults.{told};
 ghost use Rattle.jl_class.specs.Meaning as meaning;
 ghost use Rattle.jl_class.specs.Meaning.{method_key, is_member_among, names_code};
 ghost use Rattle.jl_class.specs.Reading as reading;
-ghost use Rattle.jl_class.specs.Reading.{attribute_at, steps_at, in_file, code_at};
+ghost use Rattle.jl_class.specs.Reading.{attribute_at, in_file, code_at};
 
 use crate::attribute::{content, head};
 use crate::code::code_of;

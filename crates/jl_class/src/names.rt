@@ -6,44 +6,18 @@ ghost use Rattle.jl_logic.specs.Answers.{Gives};
 ghost use Rattle.jl_names.specs.Names.{names_a_field};
 ghost use Rattle.jl_class.specs.Faults.{told};
 ghost use Rattle.jl_class.specs.Meaning as meaning;
-ghost use Rattle.jl_class.specs.Meaning.{text_that, class_named, super_named, names_method_with};
+ghost use Rattle.jl_class.specs.Meaning.{super_named, names_method_with};
+ghost use Rattle.jl_pool.specs.Pool.{text_that, class_named};
 ghost use Rattle.jl_class.specs.Reading as reading;
 ghost use Rattle.jl_class.specs.Reading.{named_at};
 
 use crate::fault::ClassFault;
 use crate::flags::{is_abstract, is_interface, is_static};
-use jl_names::{
-    Descriptor, TextFault, descriptor, is_class_name, is_field_name, is_method_name, is_paired,
-};
+use jl_names::{Descriptor, TextFault, descriptor, is_field_name, is_method_name};
 use jl_pool::Pool;
 use jl_prim::Name;
 use jl_reading::u16_at;
 use std::alloc::Global;
-
-/// The text of a Utf8 index, where no surrogate stands alone.
-fn paired_text(pool: &Pool, i: u16) -> Option<&Name>
-    ensures { option_copied result ≡ meaning.paired_text pool.now i }
-{
-    let units = pool.utf8(i)?;
-    let text = pool.text(i)?;
-    if is_paired(units.as_slice()) {
-        Some(text)
-    } else {
-        None
-    }
-}
-
-/// The name that a Class index has.
-fn class_name(pool: &Pool, i: u16) -> Option<&Name>
-    ensures { option_copied result ≡ class_named pool.now i }
-{
-    let text = paired_text(pool, pool.class(i)?)?;
-    if is_class_name(text.as_bytes()) {
-        Some(text)
-    } else {
-        None
-    }
-}
 
 /// The name of the class whose index stands at a place, and the place after it.
 #[tactic(auto, unfolding(crate::specs::Reading::named_at))]
@@ -57,7 +31,7 @@ pub fn class_name_at<'a>(
     ensures within { IfOk result (λ x. x.1 ≤ length bytes.now) }
 {
     let (index, next) = u16_at::<ClassFault>(bytes, at)?;
-    match class_name(pool, index) {
+    match pool.class_name(index) {
         Some(name) => Ok((name, next)),
         None => Err(ClassFault::Name(at)),
     }
@@ -78,7 +52,7 @@ fn super_name_at<'a>(
     if index == 0 {
         return Ok((None, next));
     }
-    match class_name(pool, index) {
+    match pool.class_name(index) {
         Some(name) => Ok((Some(name), next)),
         None => Err(ClassFault::Name(at)),
     }
@@ -133,7 +107,7 @@ pub fn field_name_at<'a>(
     ensures within { IfOk result (λ x. x.1 ≤ length bytes.now) }
 {
     let (index, next) = u16_at::<ClassFault>(bytes, at)?;
-    match paired_text(pool, index) {
+    match pool.paired_text(index) {
         Some(name) if is_field_name(name.as_bytes()) => Ok((name, next)),
         _ => Err(ClassFault::Name(at)),
     }
@@ -152,7 +126,7 @@ pub fn method_name_at<'a>(
     ensures within { IfOk result (λ x. x.1 ≤ length bytes.now) }
 {
     let (index, next) = u16_at::<ClassFault>(bytes, at)?;
-    match paired_text(pool, index) {
+    match pool.paired_text(index) {
         Some(name) if names_method(flags, name) => Ok((name, next)),
         _ => Err(ClassFault::Name(at)),
     }
@@ -192,7 +166,7 @@ pub fn field_desc_at<'a>(
     ensures within { IfOk result (λ x. x.1 ≤ length bytes.now) }
 {
     let (index, next) = u16_at::<ClassFault>(bytes, at)?;
-    let Some(desc) = paired_text(pool, index) else {
+    let Some(desc) = pool.paired_text(index) else {
         return Err(ClassFault::Name(at));
     };
     if describes_a_field(alloc, desc)? {
@@ -216,7 +190,7 @@ pub fn method_desc_at<'a>(
     ensures within { IfOk result (λ x. x.1 ≤ length bytes.now) }
 {
     let (index, next) = u16_at::<ClassFault>(bytes, at)?;
-    let Some(desc) = paired_text(pool, index) else {
+    let Some(desc) = pool.paired_text(index) else {
         return Err(ClassFault::Name(at));
     };
     if describes_method(alloc, name, desc)? {

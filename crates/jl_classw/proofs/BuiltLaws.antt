@@ -6,7 +6,7 @@ use Rattle.std.proofs.lemmas.List.{append-nil, length-append, length_push}
 use Rattle.std.specs.Str.{IsAscii}
 use Rattle.std.specs.Char.Escape.{encode_utf16}
 use Rattle.std.proofs.lemmas.Str.{IsUtf8-from_ascii, chars-IsAscii}
-use Rattle.std.proofs.lemmas.Bool.{ltb-true, ltb-false}
+use Rattle.std.proofs.lemmas.Bool.{ltb-true, ltb-false, and_parts}
 use Rattle.std.proofs.lemmas.List.Concat.{flat_map-cons}
 use Rattle.jl_reading.specs.Reading.{◌>>=◌, two}
 use Rattle.jl_reading.proofs.Steps.{bind_ok, ok_is}
@@ -17,14 +17,15 @@ use Rattle.jl_names.specs.Utf16.{utf16}
 use Rattle.jl_pool.specs.declared.entry.Entry.{Entry}
 use Rattle.jl_pool.specs.declared.entry.Entry.TheVariants as entries
 use Rattle.jl_pool.specs.Builder.{IsShort}
-use Rattle.jl_pool.specs.Pool.{tag_of}
+use Rattle.jl_pool.specs.Pool.{tag_of, class_named}
 use Rattle.jl_class.specs.declared.member.CodeBytes.{CodeBytes}
 use Rattle.jl_class.specs.declared.member.FieldDecl.{FieldDecl}
 use Rattle.jl_class.specs.declared.member.MethodDecl.{MethodDecl}
 use Rattle.jl_class.specs.declared.member.MemberKey.{MemberKey}
 use Rattle.jl_class.specs.Classes.{Class}
-use Rattle.jl_class.specs.Meaning.{are_class_flags, are_field_flags, are_method_flags, has_code, is_interface, may_extend, may_be_constant, sets_field, class_named, super_named, names_method_with, describes_a_field, describes_method_with, field_key, method_key, is_member_among, names_constant_value, names_code, names_frames}
-use Rattle.jl_class.specs.Spelling.{Attribute, Member, attribute_bytes, handler_bytes, code_bytes, is_some_named, contents, AreAttributes, AtMostOne, IsConstant, IsFrames, IsCode, IsField, IsMethod, Match, IsTable, HasName, IsClass}
+use Rattle.jl_class.specs.Meaning.{are_class_flags, are_field_flags, are_method_flags, has_code, is_interface, may_extend, may_be_constant, sets_field, super_named, names_method_with, describes_a_field, describes_method_with, field_key, method_key, is_member_among, names_constant_value, names_code, names_frames}
+use Rattle.jl_class.specs.Spelling.{Attribute, Member, attribute_bytes, handler_bytes, code_bytes, is_some_named, contents, AreAttributes, AtMostOne, IsConstant, IsFrames, IsCode, IsField, IsMethod, IsTable, HasName, IsClass}
+use Rattle.jl_logic.specs.Lists.{Match}
 use Rattle.jl_classw.specs.declared.fault.WriteFault.{WriteFault}
 use Rattle.jl_classw.specs.declared.entry.Constant.{Constant}
 use Rattle.jl_classw.specs.declared.entry.NewEntry.{NewEntry}
@@ -33,7 +34,7 @@ use Rattle.jl_classw.specs.Building.{text_entered, class_entered, super_entered,
 use Rattle.jl_classw.proofs.IndexLaws.{is_super, not_first}
 use Rattle.jl_classw.proofs.WholeLaws.{is_class, bytes_by}
 use Rattle.jl_classw.proofs.PartLaws.{kept_contents, match_length, code_length}
-use Rattle.jl_classw.proofs.PoolGrowth.{Grown, grown_self, grown_then, there_still, small_index, few_of, both, text_is_entered}
+use Rattle.jl_classw.proofs.PoolGrowth.{Grown, grown_self, grown_then, there_still, small_index, few_of, text_is_entered}
 use Rattle.jl_classw.proofs.DeclaresGrowth.{declares_still}
 use Rattle.jl_classw.proofs.EnteredLaws.{text_that_is, text_of_is, class_named_is, attribute_is_entered, class_is_entered, constant_is_entered, new_is_entered}
 use Rattle.jl_classw.proofs.DistinctLaws.{distinct_members}
@@ -356,8 +357,8 @@ is_ascii (b ∷ bs) = ltb b 128 && is_ascii bs
 ascii_by : (text : List ℕ) → is_ascii text ≡ true → IsAscii text
 unfolding is_ascii
 ascii_by [] e i = omega arith
-ascii_by (b ∷ bs) e zero = ltb-true b 128 (both (ltb b 128) (is_ascii bs) e).0
-ascii_by (b ∷ bs) e (suc i) = ascii_by bs (both (ltb b 128) (is_ascii bs) e).1 i
+ascii_by (b ∷ bs) e zero = ltb-true b 128 (and_parts (ltb b 128) (is_ascii bs) e).0
+ascii_by (b ∷ bs) e (suc i) = ascii_by bs (and_parts (ltb b 128) (is_ascii bs) e).1 i
 
 ascii_constant : IsAscii (codes "ConstantValue")
 unfolding is_ascii

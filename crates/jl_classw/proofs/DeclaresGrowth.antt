@@ -4,27 +4,23 @@ use Rattle.std.specs.Prelude.{◌==◌, option_map, if◌then◌else◌}
 use Rattle.std.specs.List.{AllByRecursion}
 use Rattle.std.specs.Option.{option_and_then}
 use Rattle.std.proofs.lemmas.Bool.{cases_Bool}
+use Rattle.jl_logic.proofs.Matching.{match_as}
 use Rattle.jl_names.specs.Text.{plain}
 use Rattle.jl_names.specs.Names.{names_a_class, names_a_field}
 use Rattle.jl_pool.specs.declared.entry.Entry.{Entry}
-use Rattle.jl_pool.specs.Pool.{utf8_units, class_name, class_of, some_tag, tag_of, text_of}
+use Rattle.jl_pool.specs.Pool.{utf8_units, class_name, class_of, some_tag, tag_of, text_of, paired, that, text_that, class_named}
 use Rattle.jl_class.specs.declared.member.CodeBytes.{CodeBytes}
 use Rattle.jl_class.specs.declared.member.FieldDecl.{FieldDecl}
 use Rattle.jl_class.specs.declared.member.MethodDecl.{MethodDecl}
 use Rattle.jl_class.specs.declared.member.MemberKey.{MemberKey}
 use Rattle.jl_class.specs.Classes.{Class}
-use Rattle.jl_class.specs.Meaning.{paired, that, text_that, class_named, super_named, may_be_constant, sets_field, names_method_with, describes_a_field, describes_method_with, field_key, method_key, is_interface, names_constant_value, names_code, names_frames}
-use Rattle.jl_class.specs.Spelling.{Attribute, Member, Parts, is_some_named, contents, AttributeFits, AreAttributes, AtMostOne, IsConstant, IsFrames, IsCode, MemberFits, IsField, IsMethod, Match, IsTable, HasName, Declares}
+use Rattle.jl_class.specs.Meaning.{super_named, may_be_constant, sets_field, names_method_with, describes_a_field, describes_method_with, field_key, method_key, is_interface, names_constant_value, names_code, names_frames}
+use Rattle.jl_class.specs.Spelling.{Attribute, Member, Parts, is_some_named, contents, AttributeFits, AreAttributes, AtMostOne, IsConstant, IsFrames, IsCode, MemberFits, IsField, IsMethod, IsTable, HasName, Declares}
+use Rattle.jl_logic.specs.Lists.{Match}
 use Rattle.jl_classw.proofs.PartLaws.{kept_contents, passed_contents}
 use Rattle.jl_classw.proofs.PoolGrowth.{Grown, still, some_of}
 
 -- ---- lists
-
-pub match_as : {A B : Type 0} (R S : A → B → Type 0) → ((a : A) (b : B) → R a b → S a b) → (xs : List A) (ys : List B) → Match R xs ys → Match S xs ys
-match_as R S h [] [] m = tt
-match_as R S h (a ∷ xs) (b ∷ ys) m = (h a b m.0, match_as R S h xs ys m.1)
-match_as R S h [] (b ∷ ys) m = absurd m
-match_as R S h (a ∷ xs) [] m = absurd m
 
 all_as : {A : Type 0} (P Q : A → Type 0) → ((a : A) → P a → Q a) → (xs : List A) → AllByRecursion P xs → AllByRecursion Q xs
 all_as P Q h [] all = tt
@@ -130,7 +126,7 @@ module _ (a b : List Entry) (g : Grown a b) where
   }
 
   table_still : {B : Type 0} (R S : Member → B → Type 0) (key : B → MemberKey) → ((m : Member) (x : B) → R m x → S m x) → (rows : List Member) (members : List B) → IsTable R key rows members → IsTable S key rows members
-  table_still R S key h rows members t = record { few = t.few; each = match_as R S h rows members t.each; distinct = t.distinct }
+  table_still R S key h rows members t = record { few = t.few; each = match_as {R = R} {S = S} h rows members t.each; distinct = t.distinct }
 
   name_still : (i : ℕ) (t : List ℕ) → HasName (class_named a) i t → HasName (class_named b) i t
   name_still i t h = (h.0, class_named_still i t h.1)
@@ -145,7 +141,7 @@ module _ (a b : List Entry) (g : Grown a b) where
         super = (d.super.0, super_named_still p.super c.super_name d.super.1);
         extends = d.extends;
         few = d.few;
-        interfaces = match_as (HasName (class_named a)) (HasName (class_named b)) name_still p.interfaces c.interfaces d.interfaces;
+        interfaces = match_as {R = HasName (class_named a)} {S = HasName (class_named b)} name_still p.interfaces c.interfaces d.interfaces;
         fields = table_still (IsField (is_interface c.flags) a) (IsField (is_interface c.flags) b) field_key (field_still (is_interface c.flags)) p.fields c.fields d.fields;
         methods = table_still (IsMethod a) (IsMethod b) method_key method_still p.methods c.methods d.methods;
         attributes = attributes_still p.attributes d.attributes;

@@ -3,9 +3,11 @@ use Rattle.std.proofs.Common.{◌≡◌, zero, suc, Bool, true, false, List, ◌
 use Rattle.std.specs.Prelude.{◌||◌, Contains}
 use Rattle.std.specs.List.{list_any}
 use Rattle.std.specs.Cmp.Lexicographic.{bytes_decides}
+use Rattle.std.proofs.lemmas.Bool.{or_parts}
 use Rattle.std.proofs.lemmas.List.{map_push}
 use Rattle.std.proofs.lemmas.List.Elements.{Contains-push_cases, Contains-append_cases, Contains-append_right}
 use Rattle.jl_logic.specs.Lists.{AreDistinct}
+use Rattle.jl_logic.proofs.Apart.{contains_first, single, distinct_push}
 use Rattle.jl_class.specs.declared.member.MemberKey.{MemberKey}
 use Rattle.jl_class.specs.Meaning.{is_same_member, is_member_among}
 
@@ -15,30 +17,10 @@ same_self a = rw ((bytes_decides a.name a.name).1 refl, (bytes_decides a.desc a.
 same_as : (a b : MemberKey) → a ≡ b → is_same_member a b ≡ true
 same_as a b e = subst (λ k. is_same_member a k ≡ true) e (same_self a)
 
-contains_first : {X : Type 0} (x y : X) (xs : List X) → y ≡ x → Contains (y ∷ xs) x
-contains_first x y xs e = (0, omega arith, e)
-
-single : {X : Type 0} (y x : X) → Contains (y ∷ []) x → y ≡ x
-single y x (zero, l, e) = e
-single y x (suc k, l, e) = absurd (omega arith)
-
-distinct_push : {X : Type 0} (xs : List X) (x : X) → AreDistinct xs → (Contains xs x → ⊥) → AreDistinct (xs ++ x ∷ [])
-distinct_push [] x d n = ((λ c. absurd (omega (arith, c.1))), tt)
-distinct_push (y ∷ ys) x d n =
-    let apart : Contains (ys ++ x ∷ []) y → ⊥ = λ c. elim (Contains-push_cases ys x y c) [
-      | inl there ↦ d.0 there
-      | inr same ↦ n (contains_first x y ys (sym same))
-    ] in
-    (apart, distinct_push ys x d.1 (λ c. n (Contains-append_right (y ∷ []) ys x c)))
-
-neither : (a b : Bool) → (a || b) ≡ false → (a ≡ false) × (b ≡ false)
-neither true b e = absurd cc
-neither false b e = (refl, e)
-
 not_among : (key : MemberKey) (keys : List MemberKey) → is_member_among key keys ≡ false → Contains keys key → ⊥
 not_among key [] e c = absurd (omega (arith, c.1))
 not_among key (k ∷ ks) e c =
-    let none = neither (is_same_member key k) (is_member_among key ks) e in
+    let none = or_parts (is_same_member key k) (is_member_among key ks) e in
     elim (Contains-append_cases (k ∷ []) ks key c) [
       | inl here ↦ let it : is_same_member key k ≡ true = same_as key k (sym (single k key here)) in absurd cc
       | inr there ↦ not_among key ks none.1 there

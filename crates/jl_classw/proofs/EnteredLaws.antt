@@ -11,8 +11,7 @@ use Rattle.jl_names.proofs.Utf16Laws.{utf16_back, utf16_paired}
 use Rattle.jl_pool.specs.declared.entry.Entry.{Entry}
 use Rattle.jl_pool.specs.declared.entry.Entry.TheVariants as entries
 use Rattle.jl_pool.specs.Builder.{IsShort}
-use Rattle.jl_pool.specs.Pool.{utf8_units, class_name, is_utf8, is_class, is_name_and_type, some_tag, tag_of, text_of}
-use Rattle.jl_class.specs.Meaning.{paired, that, text_that, class_named}
+use Rattle.jl_pool.specs.Pool.{utf8_units, class_name, is_utf8, is_class, is_name_and_type, some_tag, tag_of, text_of, paired, that, text_that, class_named}
 use Rattle.jl_classw.specs.declared.entry.Constant.{Constant}
 use Rattle.jl_classw.specs.declared.entry.Constant.TheVariants as constants
 use Rattle.jl_classw.specs.declared.entry.MemberKind.{MemberKind}

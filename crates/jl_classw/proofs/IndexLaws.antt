@@ -10,8 +10,8 @@ use Rattle.jl_names.specs.Text.{plain}
 use Rattle.jl_names.specs.Names.{names_a_class}
 use Rattle.jl_pool.specs.declared.entry.Entry.{Entry}
 use Rattle.jl_pool.specs.declared.entry.Entry.TheVariants as entries
-use Rattle.jl_pool.specs.Pool.{utf8_units, class_name, text_of}
-use Rattle.jl_class.specs.Meaning.{paired, paired_text, that, text_that, class_named, super_named}
+use Rattle.jl_pool.specs.Pool.{utf8_units, class_name, text_of, paired, paired_text, that, text_that, class_named}
+use Rattle.jl_class.specs.Meaning.{super_named}
 use Rattle.jl_class.specs.Spelling.{HasName}
 use Rattle.jl_classw.specs.Writing.{is_named, or_here, first_of, or_zero, index_by, text_index, class_index, super_index, attribute_index}
 

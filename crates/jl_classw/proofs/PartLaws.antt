@@ -6,7 +6,7 @@ use Rattle.std.proofs.lemmas.Bool.{cases_Bool}
 use Rattle.std.proofs.lemmas.List.{length-append, length-map}
 use Rattle.std.proofs.lemmas.List.Concat.{flat_map-cons}
 use Rattle.jl_names.specs.Names.{names_a_field}
-use Rattle.jl_reading.specs.Reading.{two}
+use Rattle.jl_reading.specs.Reading.{two, counted}
 use Rattle.jl_pool.specs.declared.entry.Entry.{Entry}
 use Rattle.jl_pool.specs.Pool.{text_of}
 use Rattle.jl_class.specs.declared.member.CodeBytes.{CodeBytes}
@@ -14,7 +14,8 @@ use Rattle.jl_class.specs.declared.member.FieldDecl.{FieldDecl}
 use Rattle.jl_class.specs.declared.member.MethodDecl.{MethodDecl}
 use Rattle.jl_class.specs.declared.member.MemberKey.{MemberKey}
 use Rattle.jl_class.specs.Meaning.{names_method_with, describes_a_field, describes_method_with, names_constant_value, names_code, names_frames}
-use Rattle.jl_class.specs.Spelling.{Attribute, Member, counted, attribute_bytes, handler_bytes, code_bytes, is_some_named, contents, AttributeFits, AreAttributes, AtMostOne, IsConstant, IsFrames, IsCode, IsField, IsMethod, Match, IsTable}
+use Rattle.jl_class.specs.Spelling.{Attribute, Member, attribute_bytes, handler_bytes, code_bytes, is_some_named, contents, AttributeFits, AreAttributes, AtMostOne, IsConstant, IsFrames, IsCode, IsField, IsMethod, IsTable}
+use Rattle.jl_logic.specs.Lists.{Match}
 use Rattle.jl_classw.specs.Writing.{named_attribute, optional, constant_attribute, frames_attribute, code_content, code_attribute, field_member, method_member, IsShortCode}
 use Rattle.jl_classw.proofs.IndexLaws.{text_is, text_place, attribute_place}
 

@@ -3,7 +3,7 @@ use Rattle.std.proofs.Common.{◌≡◌, ℕ, zero, suc, ◌+◌, ◌<◌, ◌�
 use Rattle.std.specs.Prelude.{◌&&◌, IsTrue, IsUtf8, position, if◌then◌else◌}
 use Rattle.std.specs.List.{AllByRecursion}
 use Rattle.std.specs.Cmp.Lexicographic.{bytes_decides}
-use Rattle.std.proofs.lemmas.Bool.{ltb-false, eqb-true}
+use Rattle.std.proofs.lemmas.Bool.{ltb-false, eqb-true, and_parts}
 use Rattle.std.proofs.lemmas.List.{append-nil, length-append}
 use Rattle.std.proofs.lemmas.Option.{slice_get_within}
 use Rattle.jl_logic.proofs.Rising.{each_in_append}
@@ -49,10 +49,6 @@ test_stays t pool rest i n e =
     let s = test_of t (slice_get pool i) n e in
     ap t (get_more pool rest i s.0 s.1) ∙ (ap t (sym s.1) ∙ e)
 
-pub both : (a b : Bool) → (a && b) ≡ true → (a ≡ true) × (b ≡ true)
-both true b e = (refl, e)
-both false b e = absurd cc
-
 pub and_is : (a b : Bool) → a ≡ true → b ≡ true → (a && b) ≡ true
 and_is a b e f = rw (e, f) refl
 
@@ -62,7 +58,7 @@ module _ (pool rest : List Entry) where
 
   class_and_type_stay : (i j : ℕ) → (is_class (slice_get pool i) && is_name_and_type (slice_get pool j)) ≡ true → (is_class (slice_get (pool ++ rest) i) && is_name_and_type (slice_get (pool ++ rest) j)) ≡ true
   class_and_type_stay i j e =
-      let b = both (is_class (slice_get pool i)) (is_name_and_type (slice_get pool j)) e in
+      let b = and_parts (is_class (slice_get pool i)) (is_name_and_type (slice_get pool j)) e in
       and_is (is_class (slice_get (pool ++ rest) i)) (is_name_and_type (slice_get (pool ++ rest) j)) (test_stays is_class pool rest i refl b.0) (test_stays is_name_and_type pool rest j refl b.1)
 
   refers_stays : (e : Entry) → refers_rightly pool e ≡ true → refers_rightly (pool ++ rest) e ≡ true
@@ -78,7 +74,7 @@ module _ (pool rest : List Entry) where
   refers_stays (entries.Method i j) h = class_and_type_stay i j h
   refers_stays (entries.InterfaceMethod i j) h = class_and_type_stay i j h
   refers_stays (entries.NameAndType i j) h =
-      let b = both (is_utf8 (slice_get pool i)) (is_utf8 (slice_get pool j)) h in
+      let b = and_parts (is_utf8 (slice_get pool i)) (is_utf8 (slice_get pool j)) h in
       and_is (is_utf8 (slice_get (pool ++ rest) i)) (is_utf8 (slice_get (pool ++ rest) j)) (utf8_stays i b.0) (utf8_stays j b.1)
   refers_stays (entries.MethodHandle kind i) h = test_stays is_member pool rest i refl h
   refers_stays (entries.MethodType i) h = utf8_stays i h
@@ -183,7 +179,7 @@ pub small_index : (pool : List Entry) (i : ℕ) (x : Entry) → IsPool pool → 
 small_index pool i x is e = let w = slice_get_within pool i x e in let few = few_of pool is in omega (arith, w, few)
 
 pair_is : (a b c d : ℕ) → (eqb a c && eqb b d) ≡ true → (a ≡ c) × (b ≡ d)
-pair_is a b c d e = let h = both (eqb a c) (eqb b d) e in (eqb-true a c h.0, eqb-true b d h.1)
+pair_is a b c d e = let h = and_parts (eqb a c) (eqb b d) e in (eqb-true a c h.0, eqb-true b d h.1)
 
 same_is : (a b : Entry) → is_same a b ≡ true → a ≡ b
 same_is (entries.Utf8 a) (entries.Utf8 b) e = ap (λ (t : List ℕ). entries.Utf8 t) ((bytes_decides a b).0 e)

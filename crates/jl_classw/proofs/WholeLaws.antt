@@ -4,7 +4,7 @@ use Rattle.std.specs.Prelude.{◌⊎◌, Result, Ok, Err, IfOk, position}
 use Rattle.std.specs.List.{flat_map, AllByRecursion}
 use Rattle.std.proofs.lemmas.List.{append-nil, length-append, drop_at, length-map}
 use Rattle.std.proofs.lemmas.List.Concat.{flat_map-cons}
-use Rattle.jl_reading.specs.Reading.{Stands, two}
+use Rattle.jl_reading.specs.Reading.{Stands, two, counted}
 use Rattle.jl_reading.proofs.Stands.{Stands-from_parts}
 use Rattle.jl_pool.specs.declared.entry.Entry.{Entry}
 use Rattle.jl_pool.specs.declared.entry.Entry.TheVariants as entries
@@ -13,8 +13,9 @@ use Rattle.jl_class.specs.declared.member.MethodDecl.{MethodDecl}
 use Rattle.jl_class.proofs.FileLaws.{class_reads}
 use Rattle.jl_class.specs.Classes.{Class}
 use Rattle.jl_class.specs.Reading.{class_of}
-use Rattle.jl_class.specs.Meaning.{is_interface, is_of_modules, class_named, super_named}
-use Rattle.jl_class.specs.Spelling.{Parts, counted, member_bytes, back_bytes, HasName, IsField, IsMethod, Declares, IsClass}
+use Rattle.jl_class.specs.Meaning.{is_interface, is_of_modules, super_named}
+use Rattle.jl_pool.specs.Pool.{class_named}
+use Rattle.jl_class.specs.Spelling.{Parts, member_bytes, back_bytes, HasName, IsField, IsMethod, Declares, IsClass}
 use Rattle.jl_class.specs.Meaning.{field_key, method_key}
 use Rattle.jl_classw.specs.Writing.{class_index, super_index, field_member, method_member, parts_of, front_bytes, pool_bytes, names_bytes, members_bytes, file_bytes, IsShortCode, IsWritable}
 use Rattle.jl_classw.proofs.BytesLaws.{counted_mapped}

@@ -3,16 +3,15 @@ use Rattle.std.specs.Prelude.{ℕ, zero, suc, ◌<◌, List, [], ◌∷◌, ◌+
 use Rattle.std.specs.List.{flat_map, AllByRecursion}
 use Rattle.std.specs.Option.{option_map_or}
 use Rattle.jl_logic.specs.Order.{is_text}
-use Rattle.jl_reading.specs.Reading.{two, four}
+use Rattle.jl_reading.specs.Reading.{two, four, counted}
 use Rattle.jl_pool.specs.declared.entry.Entry.{Entry}
-use Rattle.jl_pool.specs.Pool.{text_of}
+use Rattle.jl_pool.specs.Pool.{text_of, paired_text, class_named}
 use Rattle.jl_pool.specs.Spelling.{entry_bytes, EntryFits}
 use Rattle.jl_class.specs.declared.member.CodeBytes.{CodeBytes}
 use Rattle.jl_class.specs.declared.member.FieldDecl.{FieldDecl}
 use Rattle.jl_class.specs.declared.member.MethodDecl.{MethodDecl}
 use Rattle.jl_class.specs.Classes.{Class}
-use Rattle.jl_class.specs.Meaning.{paired_text, class_named}
-use Rattle.jl_class.specs.Spelling.{Attribute, Member, Parts, counted, member_bytes, code_bytes, CodeFits}
+use Rattle.jl_class.specs.Spelling.{Attribute, Member, Parts, member_bytes, code_bytes, CodeFits}
 
 -- ---- indices
 

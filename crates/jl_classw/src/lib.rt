@@ -8,7 +8,6 @@ mod entering;
 mod entry;
 mod fault;
 mod members;
-mod names;
 mod needs;
 mod places;
 mod writing;

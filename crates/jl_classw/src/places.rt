@@ -4,12 +4,10 @@ ghost use Rattle.std.specs.Prelude.{◌≡◌, ◌<◌, ℕ, List, length, Optio
 ghost use Rattle.std.specs.Option.{option_copied};
 ghost use Rattle.indexmap.specs.IndexMap.{get};
 ghost use Rattle.jl_logic.specs.Order.{is_text};
-ghost use Rattle.jl_pool.specs.Pool.{text_of};
-ghost use Rattle.jl_class.specs.Meaning.{paired_text as named_text, class_named};
+ghost use Rattle.jl_pool.specs.Pool.{text_of, paired_text as named_text, class_named};
 ghost use Rattle.jl_classw.specs.Writing.{is_named, or_here, first_of, or_zero, text_index, class_index, super_index, attribute_index};
 
 use crate::fault::WriteFault;
-use crate::names::{class_name, paired_text};
 use indexmap::IndexMap;
 use jl_pool::Pool;
 use jl_prim::{Copied, CopyEnd, Name};
@@ -32,7 +30,7 @@ impl<'a> Model for Places<'a> {
     ghost use Rattle.indexmap.specs.IndexMap.{get};
     ghost use Rattle.jl_logic.specs.Order.{is_text};
     ghost use Rattle.jl_pool.specs.declared.entry.Entry.{Entry};
-    ghost use Rattle.jl_class.specs.Meaning.{paired_text as named_text, class_named};
+    ghost use Rattle.jl_pool.specs.Pool.{paired_text as named_text, class_named};
     ghost use Rattle.jl_classw.specs.Writing.{first_of, attribute_index};
 
     ghost Value = { List Entry };
@@ -120,7 +118,7 @@ fn text_places(alloc: Global, pool: &Pool) -> Result<IndexMap<Name, u16>, CopyEn
     let count = pool.entries().len() as u16;
     let mut places = IndexMap::new(alloc);
     for index in 0..count {
-        places = noted(places, paired_text(pool, index), index)?;
+        places = noted(places, pool.paired_text(index), index)?;
     }
     Ok(places)
 }
@@ -134,7 +132,7 @@ fn class_places(alloc: Global, pool: &Pool) -> Result<IndexMap<Name, u16>, CopyE
     let count = pool.entries().len() as u16;
     let mut places = IndexMap::new(alloc);
     for index in 0..count {
-        places = noted(places, class_name(pool, index), index)?;
+        places = noted(places, pool.class_name(index), index)?;
     }
     Ok(places)
 }

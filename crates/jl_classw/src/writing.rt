@@ -2,11 +2,11 @@
 
 ghost use Rattle.std.specs.Prelude.{◌≡◌, ◌<◌, ◌++◌, ℕ, List, length, Ok, IfOk, OnOk, IsOkUnless};
 ghost use Rattle.std.specs.List.{AllByRecursion};
-ghost use Rattle.jl_reading.specs.Reading.{two};
+ghost use Rattle.jl_reading.specs.Reading.{two, counted};
 ghost use Rattle.jl_pool.specs.Spelling.{EntryFits};
 ghost use Rattle.jl_class.specs.declared.member.MethodDecl.{MethodDecl};
 ghost use Rattle.jl_class.specs.Reading.{class_of};
-ghost use Rattle.jl_class.specs.Spelling.{IsClass, counted, member_bytes};
+ghost use Rattle.jl_class.specs.Spelling.{IsClass, member_bytes};
 ghost use Rattle.jl_classw.specs.Writing as words;
 ghost use Rattle.jl_classw.specs.Writing.{class_index, super_index, field_member, method_member, front_bytes, names_bytes, members_bytes, file_bytes, IsShortCode, IsWritable};
 

@@ -209,26 +209,3 @@ code_only pool desc code handlers c s =
     subst (λ (ps : List ℕ). judged pool desc code handlers (stands ps) (walk pool code) ≡ Ok (kind_of pool desc s.instrs)) (sym p)
     (subst (λ (w : Walked). judged pool desc code handlers (stands (starts s.instrs)) w ≡ Ok (kind_of pool desc s.instrs)) (sym walked) read) in
     rw full (there ∙ ap (λ (k : Code). Ok k) (sym s.kind))
-
--- ---- what decode answers
-
-pub found_in : (pool : List Entry) (desc code : List ℕ) (handlers : List Handler) (r : Result Code CodeFault) → IsBytes code → Gives told (λ (c : Code). c) r (code_of pool desc code handlers)
-    → IfOk r (λ c. IsCode pool desc code handlers c)
-found_in pool desc code handlers (Ok c) fits g = code_found pool desc code handlers c fits g
-found_in pool desc code handlers (Err e) fits g = tt
-
-pub only_in : (pool : List Entry) (desc code : List ℕ) (handlers : List Handler) (r : Result Code CodeFault) → Gives told (λ (c : Code). c) r (code_of pool desc code handlers)
-    → (c : Code) → IsCode pool desc code handlers c → Gives told (λ (c : Code). c) r (Ok c)
-only_in pool desc code handlers r g c is = subst (λ (x : Result Code CodeFault). Gives told (λ (c : Code). c) r x) (code_only pool desc code handlers c is) g
-
-not_both : (r : Result Code CodeFault) (f : CodeFault) (c : Code) → r ≡ Err f → r ≡ Ok c → ⊥
-not_both (Ok x) f c e g = absurd cc
-not_both (Err x) f c e g = absurd cc
-
-fault_or : (pool : List Entry) (desc code : List ℕ) (handlers : List Handler) (r : Result Code CodeFault) → IsBytes code → code_of pool desc code handlers ≡ r → ((c : Code) → IsCode pool desc code handlers c → ⊥)
-    → (f : CodeFault) × (code_of pool desc code handlers ≡ Err f)
-fault_or pool desc code handlers (Ok c) fits e none = absurd (none c (code_found pool desc code handlers c fits e))
-fault_or pool desc code handlers (Err f) fits e none = (f, e)
-
-pub fault_or_code : (pool : List Entry) (desc code : List ℕ) (handlers : List Handler) → IsBytes code → ((f : CodeFault) × (code_of pool desc code handlers ≡ Err f)) ↔ ((c : Code) → IsCode pool desc code handlers c → ⊥)
-fault_or_code pool desc code handlers fits = ((λ f c is. not_both (code_of pool desc code handlers) f.0 c f.1 (code_only pool desc code handlers c is)), fault_or pool desc code handlers (code_of pool desc code handlers) fits refl)

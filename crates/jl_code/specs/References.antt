@@ -9,10 +9,9 @@ use Rattle.jl_names.specs.declared.types.BaseType.TheVariants.{Prim, Class}
 use Rattle.jl_names.specs.declared.types.FieldType.{FieldType}
 use Rattle.jl_names.specs.declared.types.Descriptor.{Descriptor}
 use Rattle.jl_names.specs.declared.types.Descriptor.TheVariants.{Field, Method}
-use Rattle.jl_names.specs.Text.{plain, has_no_lone_surrogate}
 use Rattle.jl_names.specs.Descriptors.{descriptor_read, slots, brackets}
 use Rattle.jl_pool.specs.declared.entry.Entry.{Entry}
-use Rattle.jl_pool.specs.Pool.{tag_of, text_of, utf8_of, class_of, name_and_type_of, member_of}
+use Rattle.jl_pool.specs.Pool.{tag_of, text_of, paired_text, class_of, name_and_type_of, member_of}
 
 abbrev pub has_tag : ℕ → Option ℕ → Bool
 has_tag tag None = false
@@ -38,12 +37,6 @@ name_text pool None = None
 name_text pool (Some named) = text_of pool named.0
 
 -- Of a descriptor each surrogate stands in a pair, else it is none.
-abbrev pub paired : List ℕ → Option (List ℕ)
-paired units = if has_no_lone_surrogate units then Some (plain units) else None
-
-abbrev pub paired_text : List Entry → ℕ → Option (List ℕ)
-paired_text pool i = option_and_then paired (utf8_of pool i)
-
 abbrev pub desc_text : List Entry → Option (ℕ × ℕ) → Option (List ℕ)
 desc_text pool None = None
 desc_text pool (Some named) = paired_text pool named.1

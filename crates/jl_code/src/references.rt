@@ -9,7 +9,7 @@ ghost use Rattle.jl_code.specs.References as words;
 
 use crate::fault::CodeFault;
 use crate::types::slots;
-use jl_names::{Descriptor, TextFault, descriptor, is_paired};
+use jl_names::{Descriptor, TextFault, descriptor};
 use jl_pool::Pool;
 use jl_prim::Name;
 use std::alloc::Global;
@@ -34,24 +34,13 @@ fn member_name(pool: &Pool, i: u16) -> Option<&Name>
     pool.text(name)
 }
 
-/// The text at an index, in which no surrogate stands alone.
-fn paired_text(pool: &Pool, i: u16) -> Option<&Name>
-    ensures { option_copied result ≡ words.paired_text pool.now i }
-{
-    if is_paired(pool.utf8(i)?.as_slice()) {
-        pool.text(i)
-    } else {
-        None
-    }
-}
-
 /// The descriptor of the member at an index, as a text.
 fn member_desc(pool: &Pool, i: u16) -> Option<&Name>
     ensures { option_copied result ≡ words.member_desc pool.now i }
 {
     let (_, _, named) = pool.member(i)?;
     let (_, desc) = pool.name_and_type(named)?;
-    paired_text(pool, desc)
+    pool.paired_text(desc)
 }
 
 /// What the descriptor of the member at an index says.

@@ -105,23 +105,3 @@ frames_read bytes fs i =
     let whole : Stands bytes 0 (two (length fs) ++ i.text) (length bytes) = Stands-from_parts bytes 0 (two (length fs) ++ i.text) [] (length bytes) (i.whole ∙ sym (append-nil (two (length fs) ++ i.text))) (omega (arith, ap length i.whole)) (omega arith) in
     let p = Stands-splits bytes 0 (two (length fs)) i.text (length bytes) whole in
     rw (number_again faults.Short 2 bytes 0 (length fs) 2 i.few p.first, frames_again bytes fs [] 2 (length bytes) i.text i.spelled p.second) (at_end (length bytes) fs)
-
--- what a reader answered
-pub found_in : {X : Type 0} (view : X → List Frame) (bytes : List ℕ) (r : Result X FrameFault) → IsBytes bytes → Gives told view r (frames_of bytes) → IfOk r (λ x. IsFrames bytes (view x))
-found_in view bytes (Ok x) fits g = frames_found bytes (view x) fits g
-found_in view bytes (Err e) fits g = tt
-
-pub only_in : {X : Type 0} (view : X → List Frame) (bytes : List ℕ) (r : Result X FrameFault) → Gives told view r (frames_of bytes) → (fs : List Frame) → IsFrames bytes fs → Gives told view r (Ok fs)
-only_in view bytes r g fs i = subst (λ (d : Result (List Frame) FrameFault). Gives told view r d) (frames_read bytes fs i) g
-
-not_both : (r : Result (List Frame) FrameFault) (f : FrameFault) (fs : List Frame) → r ≡ Err f → r ≡ Ok fs → ⊥
-not_both (Ok x) f fs e g = absurd cc
-not_both (Err x) f fs e g = absurd cc
-
-fault_or : (bytes : List ℕ) (r : Result (List Frame) FrameFault) → IsBytes bytes → frames_of bytes ≡ r → ((fs : List Frame) → IsFrames bytes fs → ⊥) → (f : FrameFault) × (frames_of bytes ≡ Err f)
-fault_or bytes (Ok fs) fits e none = absurd (none fs (frames_found bytes fs fits e))
-fault_or bytes (Err f) fits e none = (f, e)
-
--- there is a fault exactly where there are no frames
-pub fault_or_frames : (bytes : List ℕ) → IsBytes bytes → ((f : FrameFault) × (frames_of bytes ≡ Err f)) ↔ ((fs : List Frame) → IsFrames bytes fs → ⊥)
-fault_or_frames bytes fits = ((λ f fs i. not_both (frames_of bytes) f.0 fs f.1 (frames_read bytes fs i)), fault_or bytes (frames_of bytes) fits refl)

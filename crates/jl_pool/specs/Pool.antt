@@ -1,7 +1,9 @@
 -- A pool is the list of its entries, index 0 the first. What stands at an index, and which references are right (JVMS 4.4).
-use Rattle.std.specs.Prelude.{ℕ, ℤ, List, Option, None, Some, Bool, true, false, ◌&&◌, slice_get, option_map}
+use Rattle.std.specs.Prelude.{ℕ, ℤ, List, Option, None, Some, Bool, true, false, ◌&&◌, slice_get, option_map, if◌then◌else◌}
+use Rattle.std.specs.Option.{option_and_then}
 use Rattle.std.specs.Int.{cast_signed, w32, w64}
-use Rattle.jl_names.specs.Text.{plain}
+use Rattle.jl_names.specs.Text.{plain, has_no_lone_surrogate}
+use Rattle.jl_names.specs.Names.{names_a_class}
 use Rattle.jl_pool.specs.declared.entry.Entry.{Entry}
 use Rattle.jl_pool.specs.declared.entry.Entry.TheVariants as entries
 
@@ -15,12 +17,31 @@ utf8_of pool i = utf8_units (slice_get pool i)
 abbrev pub text_of : List Entry → ℕ → Option (List ℕ)
 text_of pool i = option_map plain (utf8_of pool i)
 
+-- the text of units among which no surrogate stands alone
+abbrev pub paired : List ℕ → Option (List ℕ)
+paired units = if has_no_lone_surrogate units then Some (plain units) else None
+
+abbrev pub paired_text : List Entry → ℕ → Option (List ℕ)
+paired_text pool i = option_and_then paired (utf8_of pool i)
+
+-- a text that has a property
+abbrev pub that : (List ℕ → Bool) → List ℕ → Option (List ℕ)
+that is_right text = if is_right text then Some text else None
+
+-- the text of a Utf8 index, which has a property
+abbrev pub text_that : (List ℕ → Bool) → List Entry → ℕ → Option (List ℕ)
+text_that is_right pool i = option_and_then (that is_right) (paired_text pool i)
+
 abbrev pub class_name : Option Entry → Option ℕ
 class_name (Some (entries.Class name)) = Some name
 class_name _ = None
 
 abbrev pub class_of : List Entry → ℕ → Option ℕ
 class_of pool i = class_name (slice_get pool i)
+
+-- the name that a Class index has
+abbrev pub class_named : List Entry → ℕ → Option (List ℕ)
+class_named pool i = option_and_then (text_that names_a_class pool) (class_of pool i)
 
 abbrev pub module_name : Option Entry → Option ℕ
 module_name (Some (entries.Module name)) = Some name

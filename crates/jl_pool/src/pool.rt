@@ -2,10 +2,11 @@
 
 ghost use Rattle.std.specs.Prelude.{◌≡◌};
 ghost use Rattle.std.specs.Option.{option_copied};
+ghost use Rattle.jl_pool.specs.Pool as words;
 ghost use Rattle.jl_pool.specs.Pool.{tag_of, utf8_of, text_of, class_of, module_of, package_of, string_of, name_and_type_of, member_of, integer_of, long_of};
 
 use crate::entry::Entry;
-use jl_names::Units;
+use jl_names::{Units, is_class_name, is_paired};
 use jl_prim::Name;
 use std::marker::Model;
 
@@ -66,6 +67,31 @@ impl Pool {
         match self.entries.get(i as usize) {
             Some(Entry::Utf8(text)) => Some(text.name()),
             _ => None,
+        }
+    }
+
+    /// The text of the Utf8 entry at an index, where no surrogate stands alone.
+    pub fn paired_text(&self, i: u16) -> Option<&Name>
+        ensures { option_copied result ≡ words.paired_text self.now i }
+    {
+        let units = self.utf8(i)?;
+        let text = self.text(i)?;
+        if is_paired(units.as_slice()) {
+            Some(text)
+        } else {
+            None
+        }
+    }
+
+    /// The name of the Class entry at an index, where it is the name of a class.
+    pub fn class_name(&self, i: u16) -> Option<&Name>
+        ensures { option_copied result ≡ words.class_named self.now i }
+    {
+        let text = self.paired_text(self.class(i)?)?;
+        if is_class_name(text.as_bytes()) {
+            Some(text)
+        } else {
+            None
         }
     }
 

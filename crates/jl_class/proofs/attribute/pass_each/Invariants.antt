@@ -1,5 +1,6 @@
 use Rattle.std.proofs.Common.{◌≡◌, ◌-◌, ◌≤◌, length, None, true}
-use Rattle.jl_class.specs.Reading.{steps_at, attribute_at, in_file, nothing_at}
+use Rattle.jl_class.specs.Reading.{attribute_at, in_file, nothing_at}
+use Rattle.jl_reading.specs.Reading.{steps_at}
 use Rattle.jl_class.specs.Meaning.{names_nothing}
 use Rattle.jl_class.proofs.attribute.pass_each.Given as goal
 

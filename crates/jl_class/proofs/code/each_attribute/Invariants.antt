@@ -1,5 +1,6 @@
 use Rattle.std.proofs.Common.{◌≡◌, ◌-◌, ◌≤◌, length, None, true}
-use Rattle.jl_class.specs.Reading.{steps_at, attribute_at, frames_at}
+use Rattle.jl_class.specs.Reading.{attribute_at, frames_at}
+use Rattle.jl_reading.specs.Reading.{steps_at}
 use Rattle.jl_class.specs.Meaning.{names_frames}
 use Rattle.jl_class.specs.Faults.{cut_in}
 use Rattle.jl_class.proofs.code.each_attribute.Given as goal

@@ -1,5 +1,6 @@
 use Rattle.std.proofs.Common.{◌≡◌, ◌-◌, ◌≤◌, length, None, true}
-use Rattle.jl_class.specs.Reading.{steps_at, attribute_at, in_file, constant_at}
+use Rattle.jl_class.specs.Reading.{attribute_at, in_file, constant_at}
+use Rattle.jl_reading.specs.Reading.{steps_at}
 use Rattle.jl_class.specs.Meaning.{names_constant_value}
 use Rattle.jl_class.proofs.field.each_attribute.Given as goal
 

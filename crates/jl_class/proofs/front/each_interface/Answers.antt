@@ -1,7 +1,7 @@
 use Rattle.std.proofs.lemmas.Result.{err_from_is_err_and}
 use Rattle.jl_reading.proofs.Each.{each_more, each_ends, each_done}
 use Rattle.jl_class.specs.Reading.{named_at}
-use Rattle.jl_class.specs.Meaning.{class_named}
+use Rattle.jl_pool.specs.Pool.{class_named}
 use Rattle.jl_class.specs.Faults.{told}
 use Rattle.jl_class.proofs.front.each_interface.Goals as goal
 

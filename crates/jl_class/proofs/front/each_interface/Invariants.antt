@@ -1,7 +1,7 @@
 use Rattle.std.proofs.Common.{◌≡◌, ◌-◌, ◌≤◌, [], length}
 use Rattle.jl_reading.specs.Reading.{each_at}
 use Rattle.jl_class.specs.Reading.{named_at}
-use Rattle.jl_class.specs.Meaning.{class_named}
+use Rattle.jl_pool.specs.Pool.{class_named}
 use Rattle.jl_class.proofs.front.each_interface.Given as goal
 
 abbrev pub invariant-loop : goal.invariant-loop

@@ -1,13 +1,14 @@
 use Rattle.std.proofs.lemmas.Result.{err_from_is_err_and}
 use Rattle.jl_class.specs.Reading.{attribute_at, in_file, code_at}
 use Rattle.jl_class.specs.Meaning.{names_code}
-use Rattle.jl_class.proofs.StepLaws.{steps_more, steps_end, steps_done}
+use Rattle.jl_class.specs.Faults.{told}
+use Rattle.jl_reading.proofs.Each.{steps_more, steps_end, steps_done}
 use Rattle.jl_class.proofs.method.each_attribute.Goals as goal
 
 pub returns-in_err-read-clause-exact : goal.returns-in_err-read-clause-exact
 returns-in_err-read-clause-exact c =
     let p = err_from_is_err_and c.from_residual.result c.from_residual.ensures.1 in
-    rw (p.1, p.2) (steps_end c.in_err-read.field-0.0 (attribute_at in_file names_code c.args.may_have_code (code_at c.args.pool.now) c.args.pool.now c.args.bytes.now) c.loop.done c.args.count c.loop.counter c.loop.next _ c.loop-test.true c.in_err-read.ensures.exact c.loop.invariant.reads)
+    rw (p.1, p.2) (steps_end told c.in_err-read.field-0.0 (attribute_at in_file names_code c.args.may_have_code (code_at c.args.pool.now) c.args.pool.now c.args.bytes.now) c.loop.done c.args.count c.loop.counter c.loop.next _ c.loop-test.true c.in_err-read.ensures.exact c.loop.invariant.reads)
 
 pub loop-preserved : goal.loop-preserved
 loop-preserved c = record {

@@ -1,7 +1,7 @@
 use Rattle.std.proofs.Common.{◌≡◌, ℕ, List}
 use Rattle.indexmap.specs.IndexMap.{get}
 use Rattle.jl_logic.specs.Order.{is_text}
-use Rattle.jl_class.specs.Meaning.{class_named}
+use Rattle.jl_pool.specs.Pool.{class_named}
 use Rattle.jl_classw.specs.Writing.{first_of}
 use Rattle.jl_classw.proofs.places.class_places.Given as goal
 
