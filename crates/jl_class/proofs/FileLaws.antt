@@ -1,9 +1,8 @@
 -- A class file: what is read stands there, and what stands there is read.
-use Rattle.std.proofs.Common.{◌≡◌, ℕ, ◌+◌, ◌<◌, ◌≤◌, List, [], ◌∷◌, ◌++◌, length, drop, eqb, Bool, true, false, Option, None, Some, Result, Ok, Err, refl, sym, ap, subst, arith, inl, inr}
-use Rattle.std.specs.Prelude.{IsTrue, IfOk, ◌↔◌, ◌⊎◌, ◌||◌, position, ⊤}
+use Rattle.std.proofs.Common.{◌≡◌, ℕ, ◌+◌, ◌<◌, ◌≤◌, List, [], ◌∷◌, ◌++◌, length, drop, eqb, true, false, Option, None, Some, Result, Ok, Err, refl, sym, ap, subst, arith, inl, inr}
+use Rattle.std.specs.Prelude.{IsTrue, ◌⊎◌, ◌||◌, position, ⊤}
 use Rattle.std.proofs.lemmas.Bool.{eqb-true, eq-eqb, or_cases}
 use Rattle.std.proofs.lemmas.List.{append-nil, length-drop}
-use Rattle.jl_logic.specs.Answers.{Gives}
 use Rattle.jl_reading.specs.Reading.{Stands, IsBytes, number_at, two, four, counted}
 use Rattle.jl_reading.proofs.Steps.{bind_ok, ok_is, bind_to, not_ok, else_ok}
 use Rattle.jl_reading.proofs.Stands.{Along, Stands-from_parts}
@@ -13,12 +12,11 @@ use Rattle.jl_pool.specs.Pool.{text_of, class_named}
 use Rattle.jl_pool.specs.Reading.{pool_at}
 use Rattle.jl_pool.specs.Spelling.{StandsPool}
 use Rattle.jl_pool.proofs.Whole.{pool_stands, pool_again}
-use Rattle.jl_class.specs.declared.fault.ClassFault.{ClassFault}
 use Rattle.jl_class.specs.declared.fault.ClassFault.TheVariants as faults
 use Rattle.jl_class.specs.declared.member.FieldDecl.{FieldDecl}
 use Rattle.jl_class.specs.declared.member.MethodDecl.{MethodDecl}
 use Rattle.jl_class.specs.Classes.{Class}
-use Rattle.jl_class.specs.Faults.{told, short, pool_or}
+use Rattle.jl_class.specs.Faults.{short, pool_or}
 use Rattle.jl_class.specs.Meaning.{is_interface, are_class_flags, super_named, may_extend, is_of_modules, names_nothing}
 use Rattle.jl_class.specs.Spelling.{Parts, HasName, IsClass, Attribute, is_some_named, contents, member_bytes, attribute_bytes}
 use Rattle.jl_class.specs.Reading.{front_at, outside_or, class_pool_at, flags_at, named_at, super_at, interfaces_at, fields_at, methods_at, in_file, nothing_at, others_at, class_of}

@@ -1,9 +1,9 @@
 -- Members that are apart, by their names and descriptors.
-use Rattle.std.proofs.Common.{◌≡◌, zero, suc, Bool, true, false, List, ◌∷◌, [], ◌++◌, map, append_assoc, refl, sym, subst, inl, inr, arith}
+use Rattle.std.proofs.Common.{◌≡◌, Bool, true, false, List, ◌∷◌, [], ◌++◌, map, append_assoc, refl, sym, subst, inl, inr, arith}
 use Rattle.std.specs.Prelude.{◌||◌, Contains}
 use Rattle.std.specs.Cmp.Lexicographic.{bytes_decides}
 use Rattle.std.proofs.lemmas.List.{append-nil, map_push, map-append}
-use Rattle.std.proofs.lemmas.List.Elements.{Contains-push_cases, Contains-append_cases, Contains-append_right}
+use Rattle.std.proofs.lemmas.List.Elements.{Contains-append_cases, Contains-append_right}
 use Rattle.std.proofs.lemmas.Bool.{and_parts, or_parts}
 use Rattle.indexmap.specs.IndexSet.{insert_key}
 use Rattle.jl_logic.specs.Lists.{AreDistinct}

@@ -9,7 +9,7 @@ use Rattle.jl_names.specs.declared.types.Descriptor.TheVariants as descriptors
 use Rattle.jl_names.specs.Descriptors.{descriptor_read}
 use Rattle.jl_names.specs.Names.{names_a_method}
 use Rattle.jl_pool.specs.declared.entry.Entry.{Entry}
-use Rattle.jl_pool.specs.Pool.{paired_text, text_that, class_named, tag_of, entry_tag}
+use Rattle.jl_pool.specs.Pool.{class_named, tag_of, entry_tag}
 use Rattle.jl_class.specs.declared.member.FieldDecl.{FieldDecl}
 use Rattle.jl_class.specs.declared.member.MethodDecl.{MethodDecl}
 use Rattle.jl_class.specs.declared.member.MemberKey.{MemberKey}

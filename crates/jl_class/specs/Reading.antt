@@ -1,5 +1,5 @@
 -- Reading a class file from left to right, with the first fault that is met (JVMS 4.1).
-use Rattle.std.specs.Prelude.{ℕ, zero, suc, ◌+◌, ◌-◌, List, [], length, take, drop, map, Option, None, Some, Result, Ok, Err, Bool, true, not, ◌||◌, ◌&&◌, nat_lt, ◌==◌, is_some, position, ⊤, if◌then◌else◌}
+use Rattle.std.specs.Prelude.{ℕ, ◌+◌, ◌-◌, List, [], length, take, drop, map, Option, None, Some, Result, Ok, Err, Bool, true, not, ◌||◌, ◌&&◌, nat_lt, ◌==◌, is_some, position, ⊤, if◌then◌else◌}
 use Rattle.jl_reading.specs.Reading.{◌>>=◌, number_at, each_at, steps_at}
 use Rattle.jl_prim.specs.declared.declaration.Handler.{Handler}
 use Rattle.jl_names.specs.Names.{names_a_field}

@@ -1,6 +1,6 @@
 -- The spelling of a class file: a relation between its bytes and a class (JVMS 4.1).
-use Rattle.std.specs.Prelude.{◌≡◌, ℕ, ◌<◌, List, [], ◌∷◌, ◌++◌, length, map, filter, position, Option, None, Some, IsTrue, Bool, false, is_some, ◌⊎◌, ⊤}
-use Rattle.std.specs.List.{flat_map, AllByRecursion}
+use Rattle.std.specs.Prelude.{◌≡◌, ℕ, ◌<◌, List, [], ◌∷◌, ◌++◌, length, map, filter, position, Option, None, Some, IsTrue, Bool, false, is_some, ◌⊎◌}
+use Rattle.std.specs.List.{AllByRecursion}
 use Rattle.jl_logic.specs.Lists.{AreDistinct}
 use Rattle.jl_logic.specs.Lists.{Match}
 use Rattle.jl_reading.specs.Reading.{counted, Stands, two, four}
