@@ -6,20 +6,20 @@ use Rattle.std.proofs.lemmas.Bool.{ltb-false, le-ltb}
 use Rattle.std.proofs.lemmas.List.{append-nil, length-take-le}
 use Rattle.std.specs.Cmp.Lexicographic.{bytes_decides}
 use Rattle.jl_logic.specs.Order.{is_text}
-use Rattle.jl_reading.specs.Reading.{Stands, IsBytes, number_at, two, four}
-use Rattle.jl_reading.proofs.Stands.{Stands-taken}
-use Rattle.jl_reading.proofs.Steps.{bind_ok, guard_ok, ok_is}
+use Rattle.jl_reading.specs.Reading.{Stands, IsBytes, number_at, steps_at, two, four, counted}
+use Rattle.jl_reading.proofs.Stands.{Stands-nothing, Stands-taken, IsBytes-take}
+use Rattle.jl_reading.proofs.Steps.{bind_ok, cond_ok, cond_so, guard_ok, ok_is, bind_to}
 use Rattle.jl_pool.specs.declared.entry.Entry.{Entry}
-use Rattle.jl_pool.specs.Pool.{text_of}
+use Rattle.jl_pool.specs.Pool.{text_of, class_named}
 use Rattle.jl_modinfo.specs.declared.module.Module.{Module}
 use Rattle.jl_modinfo.specs.declared.attribute.Attributes.{Attributes}
 use Rattle.jl_modinfo.specs.declared.fault.InfoFault.{InfoFault}
 use Rattle.jl_modinfo.specs.declared.fault.InfoFault.TheVariants as faults
 use Rattle.jl_modinfo.specs.Faults.{short, named_or}
-use Rattle.jl_modinfo.specs.Meaning.{package_named, class_named}
-use Rattle.jl_modinfo.specs.Info.{Body, Attribute, AttributeFits, Names, NameAll, counted, body_bytes, attribute_bytes, contents, is_named}
-use Rattle.jl_modinfo.specs.Reading.{content_end, content_at, once, unread, with_module, with_packages, with_main, passed_over, attribute_at, attributes_from, attributes_at, module_at, packages_at, main_at}
-use Rattle.jl_modinfo.proofs.Standing.{Number, two_read, four_read, number_read, join, first, second, known, ends_at, cut, uncut, bytes_cut, bind_to}
+use Rattle.jl_modinfo.specs.Meaning.{package_named}
+use Rattle.jl_modinfo.specs.Info.{Body, Attribute, AttributeFits, Names, NameAll, body_bytes, attribute_bytes, contents, is_named}
+use Rattle.jl_modinfo.specs.Reading.{content_end, content_at, once, unread, with_module, with_packages, with_main, passed_over, attribute_at, attributes_at, module_at, packages_at, main_at}
+use Rattle.jl_reading.proofs.Standing.{Number, number_in, number_read, join, first, second, known, ends_at, cut_off, uncut}
 use Rattle.jl_modinfo.proofs.EntryLaws.{named_ok}
 use Rattle.jl_modinfo.proofs.BodyLaws.{Declares, module_stands, module_reads, packages_stand, packages_read, main_stands, main_reads}
 
@@ -38,7 +38,7 @@ end_stands bytes at x b e =
     let g = guard_ok (ltb (length bytes) (s.0.1 + s.0.0)) (faults.Short s.0.1) _ x s.2 in
     subst (Ends bytes at) (ok_is _ _ g.1) (record {
       len = s.0.0;
-      number = four_read short bytes at s.0 b s.1;
+      number = number_in short 4 bytes at s.0 b s.1;
       end = refl;
       within = ltb-false (length bytes) (s.0.1 + s.0.0) g.0;
     })
@@ -78,7 +78,7 @@ content_stands {V} one M laws bytes at x b e =
     let s1 = bind_ok (content_end bytes at) _ x e in
     let s2 = bind_ok (one (take s1.0.1 bytes) s1.0.0) _ x s1.2 in
     let ends = end_stands bytes at s1.0 b s1.1 in
-    let inside = laws.stand (take s1.0.1 bytes) s1.0.0 s2.0 (bytes_cut s1.0.1 bytes b) s2.1 in
+    let inside = laws.stand (take s1.0.1 bytes) s1.0.0 s2.0 (IsBytes-take s1.0.1 bytes b) s2.1 in
     let whole = ends_at s1.0.1 (length-take-le s1.0.1 bytes ends.within) (uncut s1.0.1 ends.within inside.2) in
     subst (λ (y : V × ℕ). (content : List ℕ) × M content y.0 × Held bytes at y.1 content) (ok_is _ _ s2.2) (inside.0, inside.1, held_of bytes at s1.0 inside.0 ends whole)
 
@@ -87,7 +87,7 @@ content_reads : {V : Type 0} (one : List ℕ → ℕ → Result V InfoFault) (M 
 unfolding content_at
 content_reads one M laws bytes at next v content m h =
     let s2 = second (four (length content)) content h.stands in
-    let inside = ends_at (length (take next bytes)) (sym (length-take-le next bytes s2.within)) (cut next s2.within (omega arith) s2) in
+    let inside = ends_at (length (take next bytes)) (sym (length-take-le next bytes s2.within)) (cut_off next s2.within (omega arith) s2) in
     bind_to _ (held_reads bytes at next content h) (bind_to _ (laws.read (take next bytes) (at + 4) v content m inside) refl)
 
 -- ---- the three contents
@@ -131,14 +131,6 @@ pub record Declared (pool : List Entry) (attributes : List Attribute) (all : Att
   pub modules : AtMostOne (IsModuleContent pool) (contents pool (codes "Module") attributes) all.«module»
   pub packages : AtMostOne (IsPackagesContent pool) (contents pool (codes "ModulePackages") attributes) all.packages
   pub main : AtMostOne (IsMainContent pool) (contents pool (codes "ModuleMainClass") attributes) all.main
-
-slot_taken : {V : Type 0} (M : List ℕ → V → Type 0) (before after : List (List ℕ)) (o : Option V) (content : List ℕ) (v : V) → AtMostOne M before o → o ≡ None → after ≡ before ++ content ∷ [] → M content v
-    → AtMostOne M after (Some v)
-slot_taken M before after None content v none is push m = (content, push ∙ ap (λ cs. cs ++ content ∷ []) none, m)
-slot_taken M before after (Some w) content v one is push m = absurd cc
-
-slot_kept : {V : Type 0} (M : List ℕ → V → Type 0) (before after : List (List ℕ)) (o : Option V) → AtMostOne M before o → after ≡ before → AtMostOne M after o
-slot_kept M before after o one same = subst (λ cs. AtMostOne M cs o) (sym same) one
 
 -- where a content stands among the others, it is the only one
 record Only {V : Type 0} (M : List ℕ → V → Type 0) (before : List (List ℕ)) (content : List ℕ) (o : Option V) : Type 0 where
@@ -188,6 +180,18 @@ split_named pool name p a s e = contents_split pool name p (a ∷ s) ∙ ap (λ 
 push_other : (pool : List Entry) (name : List ℕ) (p : List Attribute) (a : Attribute) → is_named pool name a ≡ false → contents pool name (p ++ a ∷ []) ≡ contents pool name p
 push_other pool name p a e = contents_split pool name p (a ∷ []) ∙ ap (λ k. contents pool name p ++ k) (cons_by pool name a [] false e) ∙ append-nil (contents pool name p)
 
+-- one more attribute of the name, which is the first
+taken : {V : Type 0} (M : List ℕ → V → Type 0) (pool : List Entry) (name : List ℕ) (p : List Attribute) (a : Attribute) (o : Option V) (v : V) → text_of pool a.index ≡ Some name → o ≡ None
+    → AtMostOne M (contents pool name p) o → M a.content v → AtMostOne M (contents pool name (p ++ a ∷ [])) (Some v)
+taken M pool name p a None v named none one m =
+    (a.content, split_named pool name p a [] (named_by pool name name a true named ((bytes_decides name name).1 refl)) ∙ ap (λ cs. cs ++ a.content ∷ []) one, m)
+taken M pool name p a (Some w) v named none one m = absurd cc
+
+-- one of another name
+kept : {V : Type 0} (M : List ℕ → V → Type 0) (pool : List Entry) (name text : List ℕ) (p : List Attribute) (a : Attribute) (o : Option V) → text_of pool a.index ≡ Some text → is_text text name ≡ false
+    → AtMostOne M (contents pool name p) o → AtMostOne M (contents pool name (p ++ a ∷ [])) o
+kept M pool name text p a o named other one = subst (λ cs. AtMostOne M cs o) (sym (push_other pool name p a (named_by pool name text a false named other))) one
+
 -- ---- what is read
 
 abbrev module_text : List ℕ
@@ -232,9 +236,9 @@ module_step pool bytes p done at index mid name x b d h is e =
       fits = (h.number.small, c.2.small, (name, h.named));
       stands = join h.number.stands c.2.stands;
       declared = record {
-        modules = slot_taken (IsModuleContent pool) (contents pool module_text p) _ done.«module» c.0 s.0.0 d.modules o.0 (split_named pool module_text p a [] (named_by pool module_text module_text a true text refl)) c.1;
-        packages = slot_kept (IsPackagesContent pool) (contents pool packages_text p) _ done.packages d.packages (push_other pool packages_text p a (named_by pool packages_text module_text a false text refl));
-        main = slot_kept (IsMainContent pool) (contents pool main_text p) _ done.main d.main (push_other pool main_text p a (named_by pool main_text module_text a false text refl));
+        modules = taken (IsModuleContent pool) pool module_text p a done.«module» s.0.0 text o.0 d.modules c.1;
+        packages = kept (IsPackagesContent pool) pool packages_text module_text p a done.packages text refl d.packages;
+        main = kept (IsMainContent pool) pool main_text module_text p a done.main text refl d.main;
       };
     })
 
@@ -252,9 +256,9 @@ packages_step pool bytes p done at index mid name x b d h is e =
       fits = (h.number.small, c.2.small, (name, h.named));
       stands = join h.number.stands c.2.stands;
       declared = record {
-        modules = slot_kept (IsModuleContent pool) (contents pool module_text p) _ done.«module» d.modules (push_other pool module_text p a (named_by pool module_text packages_text a false text refl));
-        packages = slot_taken (IsPackagesContent pool) (contents pool packages_text p) _ done.packages c.0 s.0.0 d.packages o.0 (split_named pool packages_text p a [] (named_by pool packages_text packages_text a true text refl)) c.1;
-        main = slot_kept (IsMainContent pool) (contents pool main_text p) _ done.main d.main (push_other pool main_text p a (named_by pool main_text packages_text a false text refl));
+        modules = kept (IsModuleContent pool) pool module_text packages_text p a done.«module» text refl d.modules;
+        packages = taken (IsPackagesContent pool) pool packages_text p a done.packages s.0.0 text o.0 d.packages c.1;
+        main = kept (IsMainContent pool) pool main_text packages_text p a done.main text refl d.main;
       };
     })
 
@@ -272,9 +276,9 @@ main_step pool bytes p done at index mid name x b d h is e =
       fits = (h.number.small, c.2.small, (name, h.named));
       stands = join h.number.stands c.2.stands;
       declared = record {
-        modules = slot_kept (IsModuleContent pool) (contents pool module_text p) _ done.«module» d.modules (push_other pool module_text p a (named_by pool module_text main_text a false text refl));
-        packages = slot_kept (IsPackagesContent pool) (contents pool packages_text p) _ done.packages d.packages (push_other pool packages_text p a (named_by pool packages_text main_text a false text refl));
-        main = slot_taken (IsMainContent pool) (contents pool main_text p) _ done.main c.0 s.0.0 d.main o.0 (split_named pool main_text p a [] (named_by pool main_text main_text a true text refl)) c.1;
+        modules = kept (IsModuleContent pool) pool module_text main_text p a done.«module» text refl d.modules;
+        packages = kept (IsPackagesContent pool) pool packages_text main_text p a done.packages text refl d.packages;
+        main = taken (IsMainContent pool) pool main_text p a done.main s.0.0 text o.0 d.main c.1;
       };
     })
 
@@ -297,16 +301,11 @@ other_step pool bytes p done at index mid name x b d h no_module no_packages no_
       fits = (h.number.small, c.1.small, (name, h.named));
       stands = join h.number.stands c.1.stands;
       declared = record {
-        modules = slot_kept (IsModuleContent pool) (contents pool module_text p) _ done.«module» d.modules (push_other pool module_text p a (named_by pool module_text name a false h.named no_module));
-        packages = slot_kept (IsPackagesContent pool) (contents pool packages_text p) _ done.packages d.packages (push_other pool packages_text p a (named_by pool packages_text name a false h.named no_packages));
-        main = slot_kept (IsMainContent pool) (contents pool main_text p) _ done.main d.main (push_other pool main_text p a (named_by pool main_text name a false h.named no_main));
+        modules = kept (IsModuleContent pool) pool module_text name p a done.«module» h.named no_module d.modules;
+        packages = kept (IsPackagesContent pool) pool packages_text name p a done.packages h.named no_packages d.packages;
+        main = kept (IsMainContent pool) pool main_text name p a done.main h.named no_main d.main;
       };
     })
-
--- one of four
-cond_ok : {A : Type 0} {C : Type 0} (b : Bool) (r q : A) (y : A) → cond b r q ≡ y → (b ≡ true → r ≡ y → C) → (b ≡ false → q ≡ y → C) → C
-cond_ok true r q y e on off = on refl e
-cond_ok false r q y e on off = off refl e
 
 attribute_stands : (pool : List Entry) (bytes : List ℕ) (p : List Attribute) (done : Attributes) (at : ℕ) (x : Attributes × ℕ) → IsBytes bytes → Declared pool p done → attribute_at pool bytes done at ≡ Ok x
     → Step pool bytes p at x
@@ -314,7 +313,7 @@ unfolding attribute_at
 attribute_stands pool bytes p done at x b d e =
     let s1 = bind_ok (number_at short 2 bytes at) _ x e in
     let s2 = bind_ok (named_or at (text_of pool s1.0.0)) _ x s1.2 in
-    let h : Head pool bytes at s1.0.0 s1.0.1 s2.0 = record { number = two_read short bytes at s1.0 b s1.1; named = named_ok at (text_of pool s1.0.0) s2.0 s2.1 } in
+    let h : Head pool bytes at s1.0.0 s1.0.1 s2.0 = record { number = number_in short 2 bytes at s1.0 b s1.1; named = named_ok at (text_of pool s1.0.0) s2.0 s2.1 } in
     cond_ok (is_text s2.0 module_text) _ _ (Ok x) s2.2
     (λ is r. module_step pool bytes p done at s1.0.0 s1.0.1 s2.0 x b d h is r)
     (λ not_module q1. cond_ok (is_text s2.0 packages_text) _ _ (Ok x) q1
@@ -330,18 +329,15 @@ record Run (pool : List Entry) (bytes : List ℕ) (p : List Attribute) (n at : �
   stands : Stands bytes at (flat_map attribute_bytes attributes) x.1
   declared : Declared pool (p ++ attributes) x.0
 
-nothing : (bytes : List ℕ) (at : ℕ) → at ≤ length bytes → Stands bytes at [] at
-nothing bytes at le = record { there = refl; ends = omega arith; within = le }
-
 run_stands : (pool : List Entry) (bytes : List ℕ) (p : List Attribute) (done : Attributes) (n at : ℕ) (x : Attributes × ℕ) → IsBytes bytes → at ≤ length bytes → Declared pool p done
-    → attributes_from n pool bytes done at ≡ Ok x → Run pool bytes p n at x
-unfolding attributes_from
+    → steps_at (attribute_at pool bytes) n done at ≡ Ok x → Run pool bytes p n at x
+unfolding steps_at
 run_stands pool bytes p done zero at x b le d e =
     subst (Run pool bytes p 0 at) (ok_is _ _ e) (record {
       attributes = [];
       count = refl;
       fit = tt;
-      stands = nothing bytes at le;
+      stands = Stands-nothing bytes at le;
       declared = subst (λ all. Declared pool all done) (sym (append-nil p)) d;
     })
 run_stands pool bytes p done (suc n) at x b le d e =
@@ -367,7 +363,7 @@ pub attributes_stand : (pool : List Entry) (bytes : List ℕ) (at : ℕ) (x : At
 unfolding attributes_at
 attributes_stand pool bytes at x b e =
     let s = bind_ok (number_at short 2 bytes at) _ x e in
-    let n = two_read short bytes at s.0 b s.1 in
+    let n = number_in short 2 bytes at s.0 b s.1 in
     let r = run_stands pool bytes [] unread s.0.0 s.0.1 x b n.stands.within (record { modules = refl; packages = refl; main = refl }) s.2 in
     record {
       attributes = r.attributes;
@@ -412,11 +408,12 @@ pick_none : {V : Type 0} (cs : List (List ℕ)) (o : Option V) → cs ≡ [] →
 pick_none [] o e = refl
 pick_none (c ∷ cs) o e = absurd cc
 
-pick_same : {V : Type 0} (cs ds : List (List ℕ)) (o : Option V) → ds ≡ cs → pick cs o ≡ pick ds o
-pick_same cs ds o e = ap (λ k. pick k o) (sym e)
+pick_same : {V : Type 0} (pool : List Entry) (name text : List ℕ) (p : List Attribute) (a : Attribute) (o : Option V) → text_of pool a.index ≡ Some text → is_text text name ≡ false
+    → pick (contents pool name p) o ≡ pick (contents pool name (p ++ a ∷ [])) o
+pick_same pool name text p a o named other = ap (λ k. pick k o) (sym (push_other pool name p a (named_by pool name text a false named other)))
 
-pick_pushed : {V : Type 0} (cs ds : List (List ℕ)) (c : List ℕ) (o : Option V) → ds ≡ cs ++ c ∷ [] → o ≡ pick ds o
-pick_pushed cs ds c o e = sym (ap (λ k. pick k o) e ∙ pick_behind cs c o)
+pick_pushed : {V : Type 0} (pool : List Entry) (name : List ℕ) (p : List Attribute) (a : Attribute) (o : Option V) → is_named pool name a ≡ true → o ≡ pick (contents pool name (p ++ a ∷ [])) o
+pick_pushed pool name p a o this = sym (ap (λ k. pick k o) (split_named pool name p a [] this) ∙ pick_behind (contents pool name p) a.content o)
 
 module_again : (pool : List Entry) (bytes : List ℕ) (all : Attributes) (p : List Attribute) (a : Attribute) (s : List Attribute) (mid next : ℕ) (name : List ℕ) → Declared pool (p ++ a ∷ s) all
     → text_of pool a.index ≡ Some name → is_text name module_text ≡ true → Held bytes mid next a.content
@@ -429,9 +426,9 @@ module_again pool bytes all p a s mid next name d named is h =
     (subst (λ cs. AtMostOne (IsModuleContent pool) cs all.«module») (split_named pool module_text p a s this) d.modules) in
     let read = content_reads (module_at pool) (IsModuleContent pool) (module_laws pool) bytes mid next one.v a.content one.means h in
     let same : record (so_far pool all p) { «module» = Some one.v } ≡ so_far pool all (p ++ a ∷ []) = same_attributes _ (so_far pool all (p ++ a ∷ []))
-    (sym one.is ∙ pick_pushed (contents pool module_text p) _ a.content all.«module» (split_named pool module_text p a [] this))
-    (pick_same (contents pool packages_text p) _ all.packages (push_other pool packages_text p a (named_by pool packages_text module_text a false text refl)))
-    (pick_same (contents pool main_text p) _ all.main (push_other pool main_text p a (named_by pool main_text module_text a false text refl))) in
+    (sym one.is ∙ pick_pushed pool module_text p a all.«module» this)
+    (pick_same pool packages_text module_text p a all.packages text refl)
+    (pick_same pool main_text module_text p a all.main text refl) in
     once_first name _ _ (pick_none (contents pool module_text p) all.«module» one.none) ∙ bind_to _ read (ap (λ k. Ok (k, next)) same)
 
 packages_again : (pool : List Entry) (bytes : List ℕ) (all : Attributes) (p : List Attribute) (a : Attribute) (s : List Attribute) (mid next : ℕ) (name : List ℕ) → Declared pool (p ++ a ∷ s) all
@@ -445,9 +442,9 @@ packages_again pool bytes all p a s mid next name d named is h =
     (subst (λ cs. AtMostOne (IsPackagesContent pool) cs all.packages) (split_named pool packages_text p a s this) d.packages) in
     let read = content_reads (packages_at pool) (IsPackagesContent pool) (packages_laws pool) bytes mid next one.v a.content one.means h in
     let same : record (so_far pool all p) { packages = Some one.v } ≡ so_far pool all (p ++ a ∷ []) = same_attributes _ (so_far pool all (p ++ a ∷ []))
-    (pick_same (contents pool module_text p) _ all.«module» (push_other pool module_text p a (named_by pool module_text packages_text a false text refl)))
-    (sym one.is ∙ pick_pushed (contents pool packages_text p) _ a.content all.packages (split_named pool packages_text p a [] this))
-    (pick_same (contents pool main_text p) _ all.main (push_other pool main_text p a (named_by pool main_text packages_text a false text refl))) in
+    (pick_same pool module_text packages_text p a all.«module» text refl)
+    (sym one.is ∙ pick_pushed pool packages_text p a all.packages this)
+    (pick_same pool main_text packages_text p a all.main text refl) in
     once_first name _ _ (pick_none (contents pool packages_text p) all.packages one.none) ∙ bind_to _ read (ap (λ k. Ok (k, next)) same)
 
 main_again : (pool : List Entry) (bytes : List ℕ) (all : Attributes) (p : List Attribute) (a : Attribute) (s : List Attribute) (mid next : ℕ) (name : List ℕ) → Declared pool (p ++ a ∷ s) all
@@ -461,9 +458,9 @@ main_again pool bytes all p a s mid next name d named is h =
     (subst (λ cs. AtMostOne (IsMainContent pool) cs all.main) (split_named pool main_text p a s this) d.main) in
     let read = content_reads (main_at pool) (IsMainContent pool) (main_laws pool) bytes mid next one.v a.content one.means h in
     let same : record (so_far pool all p) { main = Some one.v } ≡ so_far pool all (p ++ a ∷ []) = same_attributes _ (so_far pool all (p ++ a ∷ []))
-    (pick_same (contents pool module_text p) _ all.«module» (push_other pool module_text p a (named_by pool module_text main_text a false text refl)))
-    (pick_same (contents pool packages_text p) _ all.packages (push_other pool packages_text p a (named_by pool packages_text main_text a false text refl)))
-    (sym one.is ∙ pick_pushed (contents pool main_text p) _ a.content all.main (split_named pool main_text p a [] this)) in
+    (pick_same pool module_text main_text p a all.«module» text refl)
+    (pick_same pool packages_text main_text p a all.packages text refl)
+    (sym one.is ∙ pick_pushed pool main_text p a all.main this) in
     once_first name _ _ (pick_none (contents pool main_text p) all.main one.none) ∙ bind_to _ read (ap (λ k. Ok (k, next)) same)
 
 other_again : (pool : List Entry) (bytes : List ℕ) (all : Attributes) (p : List Attribute) (a : Attribute) (mid next : ℕ) (name : List ℕ) → text_of pool a.index ≡ Some name
@@ -472,15 +469,10 @@ other_again : (pool : List Entry) (bytes : List ℕ) (all : Attributes) (p : Lis
 unfolding passed_over
 other_again pool bytes all p a mid next name named no_module no_packages no_main h =
     let same : so_far pool all p ≡ so_far pool all (p ++ a ∷ []) = same_attributes (so_far pool all p) (so_far pool all (p ++ a ∷ []))
-    (pick_same (contents pool module_text p) _ all.«module» (push_other pool module_text p a (named_by pool module_text name a false named no_module)))
-    (pick_same (contents pool packages_text p) _ all.packages (push_other pool packages_text p a (named_by pool packages_text name a false named no_packages)))
-    (pick_same (contents pool main_text p) _ all.main (push_other pool main_text p a (named_by pool main_text name a false named no_main))) in
+    (pick_same pool module_text name p a all.«module» named no_module)
+    (pick_same pool packages_text name p a all.packages named no_packages)
+    (pick_same pool main_text name p a all.main named no_main) in
     bind_to _ (held_reads bytes mid next a.content h) (ap (λ k. Ok (k, next)) same)
-
--- one of two
-cond_so : {A : Type 0} (b : Bool) (r q y : A) → (b ≡ true → r ≡ y) → (b ≡ false → q ≡ y) → cond b r q ≡ y
-cond_so true r q y on off = on refl
-cond_so false r q y on off = off refl
 
 attribute_again : (pool : List Entry) (bytes : List ℕ) (all : Attributes) (p : List Attribute) (a : Attribute) (s : List Attribute) (at next : ℕ) → Declared pool (p ++ a ∷ s) all → AttributeFits pool a
     → Stands bytes at (attribute_bytes a) next → attribute_at pool bytes (so_far pool all p) at ≡ Ok (so_far pool all (p ++ a ∷ []), next)
@@ -500,8 +492,8 @@ attribute_again pool bytes all p a s at next d f t =
     (λ not_main. other_again pool bytes all p a (at + 2) next name named not_module not_packages not_main h)))))
 
 run_again : (pool : List Entry) (bytes : List ℕ) (all : Attributes) (p s : List Attribute) (at next : ℕ) → Declared pool (p ++ s) all → AllByRecursion (AttributeFits pool) s
-    → Stands bytes at (flat_map attribute_bytes s) next → attributes_from (length s) pool bytes (so_far pool all p) at ≡ Ok (so_far pool all (p ++ s), next)
-unfolding attributes_from
+    → Stands bytes at (flat_map attribute_bytes s) next → steps_at (attribute_at pool bytes) (length s) (so_far pool all p) at ≡ Ok (so_far pool all (p ++ s), next)
+unfolding steps_at
 run_again pool bytes all p [] at next d f t =
     let end : at ≡ next = omega (arith, t.ends) in
     rw (append-nil p, end) refl

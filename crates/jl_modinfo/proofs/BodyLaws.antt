@@ -2,18 +2,20 @@
 use Rattle.std.proofs.Common.{◌≡◌, ℕ, ◌+◌, ◌<◌, List, [], ◌∷◌, ◌++◌, length, Bool, true, false, eqb, Some, Ok, refl, sym, ◌∙◌, subst}
 use Rattle.std.specs.Prelude.{codes}
 use Rattle.std.proofs.lemmas.Bool.{eqb-true, eq-eqb}
-use Rattle.jl_reading.specs.Reading.{Stands, IsBytes, number_at, two}
-use Rattle.jl_reading.proofs.Steps.{bind_ok, ok_is}
+use Rattle.jl_reading.specs.Reading.{Stands, IsBytes, number_at, two, counted}
+use Rattle.jl_reading.proofs.Steps.{bind_ok, ok_is, bind_to, else_ok}
 use Rattle.jl_prim.specs.declared.declaration.Grant.{Grant}
 use Rattle.jl_pool.specs.declared.entry.Entry.{Entry}
 use Rattle.jl_modinfo.specs.declared.module.Module.{Module}
 use Rattle.jl_modinfo.specs.declared.fault.InfoFault.TheVariants as faults
 use Rattle.jl_modinfo.specs.Faults.{short}
-use Rattle.jl_modinfo.specs.Meaning.{module_named, package_named, class_named, version_named, is_set}
-use Rattle.jl_modinfo.specs.Info.{Body, GrantRow, Names, NameAll, IsTable, IsRequires, IsGrant, IsProvides, Match, counted, requires_bytes, grant_bytes, provides_bytes, body_bytes}
+use Rattle.jl_modinfo.specs.Meaning.{module_named, package_named, version_named, is_set}
+use Rattle.jl_pool.specs.Pool.{class_named}
+use Rattle.jl_modinfo.specs.Info.{Body, GrantRow, Names, NameAll, IsTable, IsRequires, IsGrant, IsProvides, requires_bytes, grant_bytes, provides_bytes, body_bytes}
+use Rattle.jl_logic.specs.Lists.{Match}
 use Rattle.jl_modinfo.specs.Reading.{name_at, names_at, version_at, requires_table_at, grants_at, opened_named, provides_table_at, ended, module_at, packages_at, main_at}
-use Rattle.jl_modinfo.proofs.Standing.{two_read, number_read, join, first, second, ends_at, bind_to, else_ok}
-use Rattle.jl_modinfo.proofs.TableLaws.{table_as}
+use Rattle.jl_reading.proofs.Standing.{number_in, number_read, join, first, second, ends_at}
+use Rattle.jl_modinfo.proofs.TableLaws.{table_as, is_table}
 use Rattle.jl_modinfo.proofs.EntryLaws.{name_stands, name_reads, version_stands, version_reads, names_stand, names_read, requires_table_stands, requires_table_reads, GrantBy, granted_package, grants_stand, grants_read, provides_table_stands, provides_table_reads, required_name, provided_service}
 
 -- ---- all of the bytes
@@ -100,7 +102,7 @@ module_stands pool bytes at m b e =
     let s8 = bind_ok (provides_table_at pool bytes s7.0.1) _ m s7.2 in
     let end = ended_ok bytes (_, s8.0.1) m s8.2 in
     let n1 = name_stands module_named pool bytes at s1.0 b s1.1 in
-    let n2 = two_read short bytes s1.0.1 s2.0 b s2.1 in
+    let n2 = number_in short 2 bytes s1.0.1 s2.0 b s2.1 in
     let n3 = version_stands pool bytes s2.0.1 s3.0 b s3.1 in
     let t4 = requires_table_stands pool bytes s3.0.1 s4.0 b s4.1 in
     let t5 = grants_stand (codes "exports") package_named pool bytes s4.0.1 s5.0 b s5.1 in
@@ -115,12 +117,12 @@ module_stands pool bytes at m b e =
         name = n1.is;
         is_open = refl;
         version = n3.named;
-        required = t4.table;
-        exports = table_as (exported pool) t5.rows s5.0.0 t5.table;
-        opens = table_as (opened (is_set s2.0.0 0x20) pool) t6.rows s6.0.0 t6.table;
-        closed = none_opened pool t6.rows s6.0.0 (is_set s2.0.0 0x20) t6.table.each;
+        required = is_table required_name t4;
+        exports = table_as (exported pool) t5.rows s5.0.0 (is_table granted_package t5);
+        opens = table_as (opened (is_set s2.0.0 0x20) pool) t6.rows s6.0.0 (is_table granted_package t6);
+        closed = none_opened pool t6.rows s6.0.0 (is_set s2.0.0 0x20) t6.each;
         uses = t7.all;
-        provides = t8.table;
+        provides = is_table provided_service t8;
       };
       stands = join n1.stands (join n2.stands (join n3.number.stands tail));
     })

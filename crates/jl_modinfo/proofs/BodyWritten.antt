@@ -1,5 +1,5 @@
 -- The rows that are written declare the entries that they were made of.
-use Rattle.std.proofs.Common.{◌≡◌, ℕ, ◌+◌, ◌<◌, Bool, true, false, ◌==◌, List, [], ◌∷◌, ◌++◌, map, length, Option, None, Some, refl, sym, ap, ap₂, subst, ◌∙◌, arith}
+use Rattle.std.proofs.Common.{◌≡◌, ℕ, ◌+◌, ◌<◌, Bool, true, false, ◌==◌, List, [], ◌∷◌, ◌++◌, map, length, Option, None, Some, refl, sym, ap, ap₂, ◌∙◌, arith}
 use Rattle.std.specs.Prelude.{IsTrue, if◌then◌else◌}
 use Rattle.std.specs.List.{flat_map, AllByRecursion}
 use Rattle.std.specs.Option.{option_and_then}
@@ -7,8 +7,8 @@ use Rattle.std.proofs.lemmas.Bool.{ne_eqb}
 use Rattle.std.proofs.lemmas.List.{length-map}
 use Rattle.std.proofs.lemmas.List.Concat.{flat_map-cons}
 use Rattle.std.proofs.lemmas.List.Folds.{flat_map-map}
-use Rattle.jl_logic.specs.Lists.{AreDistinct}
-use Rattle.jl_reading.specs.Reading.{two}
+use Rattle.jl_logic.specs.Lists.{AreDistinct, Match}
+use Rattle.jl_reading.specs.Reading.{two, counted}
 use Rattle.jl_prim.specs.Names.{names_a_module}
 use Rattle.jl_prim.specs.declared.declaration.Requires.{Requires}
 use Rattle.jl_prim.specs.declared.declaration.Grant.{Grant}
@@ -16,33 +16,18 @@ use Rattle.jl_prim.specs.declared.declaration.Provides.{Provides}
 use Rattle.jl_prim.specs.declared.declaration.Declaration.{Declaration}
 use Rattle.jl_names.specs.Names.{names_a_class}
 use Rattle.jl_pool.specs.declared.constant.Constant.{Constant}
+use Rattle.jl_pool.specs.declared.entry.Entry.{Entry}
 use Rattle.jl_pool.specs.declared.constant.Constant.TheVariants as constants
 use Rattle.jl_pool.specs.Builder.{has, index_in, pool_of, AreKept}
-use Rattle.jl_modinfo.specs.Meaning.{module_named, package_named, class_named, version_named, is_set, targets_of}
-use Rattle.jl_modinfo.specs.Info.{counted, requires_bytes, grant_bytes, provides_bytes, body_bytes, Match, Names, NameAll, IsRequires, IsGrant, IsProvides, IsBody}
+use Rattle.jl_modinfo.specs.Meaning.{module_named, version_named, is_set, targets_of}
+use Rattle.jl_pool.specs.Pool.{class_named}
+use Rattle.jl_modinfo.specs.Info.{requires_bytes, grant_bytes, provides_bytes, body_bytes, Names, NameAll, IsRequires, IsGrant, IsProvides, IsBody}
 use Rattle.jl_modinfo.specs.Writing.{targets, IsFineGrant, IsFineProvides, KeepsRules}
-use Rattle.jl_modinfo.specs.Layout.{module_constant, class_constant, package_constant, required_constant, grant_constants, provides_constants, front_constants, table_constants, back_constants, named_constants, version_constants, module_index, class_index, package_index, version_index, requires_row, grant_row, provides_row, body_of, counted_by, class_bytes, package_bytes, requires_written, grant_written, provides_written, body_written, AreFew}
+use Rattle.jl_modinfo.specs.Layout.{module_constant, class_constant, required_constant, grant_constants, provides_constants, front_constants, table_constants, back_constants, named_constants, version_constants, module_index, class_index, version_index, requires_row, grant_row, provides_row, body_of, counted_by, class_bytes, package_bytes, requires_written, grant_written, provides_written, body_written, AreFew}
+use Rattle.jl_modinfo.proofs.AllLaws.{all_front, all_back, all_of, each_of, all_both}
 use Rattle.jl_modinfo.proofs.IndexLaws.{class_there, module_there, package_there, text_there, index_is, small}
 
 -- ---- lists
-
-pub all_front : {X : Type 0} (P : X → Type 0) (xs ys : List X) → AllByRecursion P (xs ++ ys) → AllByRecursion P xs
-all_front P [] ys a = tt
-all_front P (x ∷ xs) ys a = (a.0, all_front P xs ys a.1)
-
-pub all_back : {X : Type 0} (P : X → Type 0) (xs ys : List X) → AllByRecursion P (xs ++ ys) → AllByRecursion P ys
-all_back P [] ys a = a
-all_back P (x ∷ xs) ys a = all_back P xs ys a.1
-
-pub all_of : {X Y : Type 0} (P : Y → Type 0) (f : X → Y) (xs : List X) → AllByRecursion P (map f xs) → AllByRecursion (λ x. P (f x)) xs
-all_of P f [] a = tt
-all_of P f (x ∷ xs) a = (a.0, all_of P f xs a.1)
-
-pub each_of : {X Y : Type 0} (P : Y → Type 0) (f : X → List Y) (xs : List X) → AllByRecursion P (flat_map f xs) → AllByRecursion (λ x. AllByRecursion P (f x)) xs
-each_of P f [] a = tt
-each_of P f (x ∷ xs) a =
-    let b = subst (AllByRecursion P) (flat_map-cons f x xs) a in
-    (all_front P (f x) (flat_map f xs) b, each_of P f xs (all_back P (f x) (flat_map f xs) b))
 
 -- what holds of each of a list in two ways
 matched : {X Y : Type 0} (R : Y → X → Type 0) (f : X → Y) (P Q : X → Type 0) → ((x : X) → P x → Q x → R (f x) x) → (xs : List X) → AllByRecursion P xs → AllByRecursion Q xs → Match R (map f xs) xs
@@ -71,29 +56,19 @@ module _ (cs : List Constant) (kept : AreKept cs) where
   abbrev There : Constant → Type 0
   There c = has cs c ≡ true
 
-  modules_there : (names : List (List ℕ)) → AllByRecursion There (map module_constant names) → AllByRecursion (λ n. IsTrue (names_a_module n)) names → length names < 65536 → AreDistinct names
-      → NameAll module_named (pool_of cs) (map (module_index cs) names) names
-  modules_there names there fine few apart = record {
-    few = few_map (module_index cs) names few;
-    each = matched (Names module_named (pool_of cs)) (module_index cs) (λ n. There (constants.Module n)) (λ n. IsTrue (names_a_module n)) (λ n t f. module_there cs kept n t f) names (all_of There module_constant names there) fine;
+  pub names_there : (named : List Entry → ℕ → Option (List ℕ)) (constant : List ℕ → Constant) (is_name : List ℕ → Bool)
+      → ((t : List ℕ) → There (constant t) → IsTrue (is_name t) → Names named (pool_of cs) (index_in cs (constant t)) t)
+      → (names : List (List ℕ)) → AllByRecursion There (map constant names) → AllByRecursion (λ n. IsTrue (is_name n)) names → length names < 65536 → AreDistinct names
+      → NameAll named (pool_of cs) (map (λ n. index_in cs (constant n)) names) names
+  names_there named constant is_name law names there fine few apart = record {
+    few = few_map (λ n. index_in cs (constant n)) names few;
+    each = matched (Names named (pool_of cs)) (λ n. index_in cs (constant n)) (λ n. There (constant n)) (λ n. IsTrue (is_name n)) law names (all_of There constant names there) fine;
     distinct = apart;
   }
 
   classes_there : (names : List (List ℕ)) → AllByRecursion There (map class_constant names) → AllByRecursion (λ n. IsTrue (names_a_class n)) names → length names < 65536 → AreDistinct names
       → NameAll class_named (pool_of cs) (map (class_index cs) names) names
-  classes_there names there fine few apart = record {
-    few = few_map (class_index cs) names few;
-    each = matched (Names class_named (pool_of cs)) (class_index cs) (λ n. There (constants.Class n)) (λ n. IsTrue (names_a_class n)) (λ n t f. class_there cs kept n t f) names (all_of There class_constant names there) fine;
-    distinct = apart;
-  }
-
-  pub packages_there : (names : List (List ℕ)) → AllByRecursion There (map package_constant names) → AllByRecursion (λ n. IsTrue (names_a_class n)) names → length names < 65536 → AreDistinct names
-      → NameAll package_named (pool_of cs) (map (package_index cs) names) names
-  packages_there names there fine few apart = record {
-    few = few_map (package_index cs) names few;
-    each = matched (Names package_named (pool_of cs)) (package_index cs) (λ n. There (constants.Package n)) (λ n. IsTrue (names_a_class n)) (λ n t f. package_there cs kept n t f) names (all_of There package_constant names there) fine;
-    distinct = apart;
-  }
+  classes_there = names_there class_named class_constant names_a_class (class_there cs kept)
 
   flags_fit : (t s : Bool) → (if t then 0x20 else 0) + (if s then 0x40 else 0) < 65536
   flags_fit true true = omega arith
@@ -128,7 +103,7 @@ module _ (cs : List Constant) (kept : AreKept cs) where
     named = package_there cs kept g.package there.0 fine.granted;
     targets = targets g;
     to = to_is g fine.some;
-    all = modules_there (targets g) there.1 fine.modules few fine.distinct;
+    all = names_there module_named module_constant names_a_module (module_there cs kept) (targets g) there.1 fine.modules few fine.distinct;
   }
 
   pub provides_is : (p : Provides) → AllByRecursion There (provides_constants p) → IsFineProvides p → length p.implementations < 65536 → IsProvides (pool_of cs) (provides_row cs p) p
@@ -162,20 +137,18 @@ module _ (cs : List Constant) (kept : AreKept cs) where
   open_is false = refl
 
   required_match : (rs : List Requires) → AllByRecursion There (map required_constant rs) → AllByRecursion (λ n. IsTrue (names_a_module n)) (map (λ (r : Requires). r.name) rs) → Match (IsRequires (pool_of cs)) (map (requires_row cs) rs) rs
-  required_match [] there fine = tt
-  required_match (r ∷ rs) there fine = (requires_is r there.0 fine.0, required_match rs there.1 fine.1)
+  required_match rs there fine =
+      matched (IsRequires (pool_of cs)) (requires_row cs) (λ r. There (required_constant r)) (λ r. IsTrue (names_a_module r.name)) requires_is rs (all_of There required_constant rs there) (all_of (λ n. IsTrue (names_a_module n)) (λ (r : Requires). r.name) rs fine)
 
   grants_match : (gs : List Grant) → AllByRecursion There (flat_map grant_constants gs) → AllByRecursion IsFineGrant gs → AllByRecursion (λ (g : Grant). length (targets g) < 65536) gs → Match (IsGrant (pool_of cs)) (map (grant_row cs) gs) gs
-  grants_match [] there fine few = tt
-  grants_match (g ∷ gs) there fine few =
-      let b = subst (AllByRecursion There) (flat_map-cons grant_constants g gs) there in
-      (grant_is g (all_front There (grant_constants g) (flat_map grant_constants gs) b) fine.0 few.0, grants_match gs (all_back There (grant_constants g) (flat_map grant_constants gs) b) fine.1 few.1)
+  grants_match gs there fine few =
+      matched (IsGrant (pool_of cs)) (grant_row cs) (λ g. AllByRecursion There (grant_constants g)) (λ g. IsFineGrant g × (length (targets g) < 65536)) (λ g t h. grant_is g t h.0 h.1) gs (each_of There grant_constants gs there)
+      (all_both IsFineGrant (λ (g : Grant). length (targets g) < 65536) gs fine few)
 
   provides_match : (ps : List Provides) → AllByRecursion There (flat_map provides_constants ps) → AllByRecursion IsFineProvides ps → AllByRecursion (λ (p : Provides). length p.implementations < 65536) ps → Match (IsProvides (pool_of cs)) (map (provides_row cs) ps) ps
-  provides_match [] there fine few = tt
-  provides_match (p ∷ ps) there fine few =
-      let b = subst (AllByRecursion There) (flat_map-cons provides_constants p ps) there in
-      (provides_is p (all_front There (provides_constants p) (flat_map provides_constants ps) b) fine.0 few.0, provides_match ps (all_back There (provides_constants p) (flat_map provides_constants ps) b) fine.1 few.1)
+  provides_match ps there fine few =
+      matched (IsProvides (pool_of cs)) (provides_row cs) (λ p. AllByRecursion There (provides_constants p)) (λ p. IsFineProvides p × (length p.implementations < 65536)) (λ p t h. provides_is p t h.0 h.1) ps (each_of There provides_constants ps there)
+      (all_both IsFineProvides (λ (p : Provides). length p.implementations < 65536) ps fine few)
 
   pub body_is : (d : Declaration) → AllByRecursion There (named_constants d) → AreFew d → KeepsRules d → IsBody (pool_of cs) (body_of cs d) d
   body_is d there few rules =

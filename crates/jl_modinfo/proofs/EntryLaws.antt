@@ -1,23 +1,26 @@
 -- The content of a Module attribute: what is read stands there, and what stands there is read.
-use Rattle.std.proofs.Common.{◌≡◌, ℕ, ◌+◌, ◌<◌, List, [], ◌∷◌, ◌++◌, length, map, Bool, true, false, eqb, Option, None, Some, Ok, refl, sym, ap, ◌∙◌, subst, arith}
+use Rattle.std.proofs.Common.{◌≡◌, ℕ, ◌+◌, ◌<◌, List, [], ◌++◌, length, map, eqb, Option, None, Some, Ok, refl, sym, ap, ◌∙◌, subst}
 use Rattle.std.specs.Prelude.{Contains, codes}
 use Rattle.std.specs.List.{flat_map}
-use Rattle.std.proofs.lemmas.Bool.{eqb-true, eq-eqb}
+use Rattle.std.proofs.lemmas.Bool.{eq-eqb, ne_eqb}
+use Rattle.std.proofs.lemmas.List.{map-id, nil_from_length}
 use Rattle.jl_logic.specs.Lists.{AreDistinct}
-use Rattle.jl_reading.specs.Reading.{Stands, IsBytes, number_at, two}
-use Rattle.jl_reading.proofs.Steps.{bind_ok, guard_ok, ok_is}
+use Rattle.jl_reading.specs.Reading.{Stands, IsBytes, number_at, two, counted}
+use Rattle.jl_reading.proofs.Steps.{bind_ok, guard_ok, ok_is, bind_to}
 use Rattle.jl_prim.specs.declared.declaration.Requires.{Requires}
 use Rattle.jl_prim.specs.declared.declaration.Grant.{Grant}
 use Rattle.jl_prim.specs.declared.declaration.Provides.{Provides}
 use Rattle.jl_pool.specs.declared.entry.Entry.{Entry}
 use Rattle.jl_modinfo.specs.declared.fault.InfoFault.TheVariants as faults
 use Rattle.jl_modinfo.specs.Faults.{short, named_or}
-use Rattle.jl_modinfo.specs.Meaning.{module_named, class_named, version_named, is_among, targets_of}
-use Rattle.jl_modinfo.specs.Info.{RequiresRow, GrantRow, ProvidesRow, Names, NameAll, IsTable, IsRequires, IsProvides, counted, requires_bytes, grant_bytes, provides_bytes}
+use Rattle.jl_modinfo.specs.Meaning.{module_named, version_named, is_among, targets_of}
+use Rattle.jl_pool.specs.Pool.{class_named}
+use Rattle.jl_modinfo.specs.Info.{RequiresRow, GrantRow, ProvidesRow, Names, NameAll, IsTable, IsRequires, IsProvides, requires_bytes, grant_bytes, provides_bytes}
 use Rattle.jl_modinfo.specs.Reading.{name_at, new_name_at, names_at, version_at, requires_at, requires_table_at, grant_at, grants_at, implementations_at, provides_at, provides_table_at}
 use Rattle.jl_modinfo.proofs.NameLaws.{not_among, among_not}
-use Rattle.jl_modinfo.proofs.Standing.{Number, two_read, number_read, join, first, second, bind_to}
-use Rattle.jl_modinfo.proofs.TableLaws.{Row, EntryStands, EntryReads, Table, rows_counted, rows_read, table_stands, table_reads}
+use Rattle.jl_reading.proofs.Standing.{Number, number_in, number_read, join, first, second}
+use Rattle.jl_reading.proofs.Tables.{Row, EntryStands, EntryReads, Table, table_stands}
+use Rattle.jl_modinfo.proofs.TableLaws.{Fresh, is_table, is_read}
 
 abbrev pub Naming : Type 0
 Naming = List Entry → ℕ → Option (List ℕ)
@@ -38,7 +41,7 @@ unfolding name_at
 name_stands named pool bytes at x b e =
     let s1 = bind_ok (number_at short 2 bytes at) _ x e in
     let s2 = bind_ok (named_or at (named pool s1.0.0)) _ x s1.2 in
-    let n = two_read short bytes at s1.0 b s1.1 in
+    let n = number_in short 2 bytes at s1.0 b s1.1 in
     let is : (s2.0, s1.0.1) ≡ x = ok_is _ _ s2.2 in
     subst (Named named pool bytes at) is (record {
       index = s1.0.0;
@@ -64,7 +67,7 @@ version_stands pool bytes at x b e =
     let is : (s2.0, s1.0.1) ≡ x = ok_is _ _ s2.2 in
     subst (Versioned pool bytes at) is (record {
       index = s1.0.0;
-      number = two_read short bytes at s1.0 b s1.1;
+      number = number_in short 2 bytes at s1.0 b s1.1;
       named = named_ok at (version_named pool s1.0.0) s2.0 s2.1;
     })
 
@@ -98,62 +101,52 @@ new_name_reads table named pool bytes done at index next name n s fresh = bind_t
 abbrev itself : List ℕ → List ℕ
 itself name = name
 
-all_itself : (names : List (List ℕ)) → map itself names ≡ names
-all_itself [] = refl
-all_itself (n ∷ ns) = ap (λ k. n ∷ k) (all_itself ns)
-
-each_name_stands : (table : List ℕ) (named : Naming) (pool : List Entry) (bytes : List ℕ) → IsBytes bytes → EntryStands bytes two (Names named pool) itself (new_name_at table named pool bytes)
+each_name_stands : (table : List ℕ) (named : Naming) (pool : List Entry) (bytes : List ℕ) → IsBytes bytes → EntryStands bytes two (Names named pool) (Fresh itself) (new_name_at table named pool bytes)
 each_name_stands table named pool bytes b done at x e =
     let n = new_name_stands table named pool bytes done at x b e in
     record {
       row = n.name.index;
       is = n.name.is;
       stands = n.name.stands;
-      fresh = subst (λ all. Contains all x.0 → ⊥) (sym (all_itself done)) n.fresh;
+      fresh = subst (λ all. Contains all x.0 → ⊥) (sym (map-id done)) n.fresh;
     }
 
-each_name_reads : (table : List ℕ) (named : Naming) (pool : List Entry) (bytes : List ℕ) → EntryReads bytes two (Names named pool) itself (new_name_at table named pool bytes)
-each_name_reads table named pool bytes done at next index name n s fresh = new_name_reads table named pool bytes done at index next name n s (subst (λ all. Contains all name → ⊥) (all_itself done) fresh)
+each_name_reads : (table : List ℕ) (named : Naming) (pool : List Entry) (bytes : List ℕ) → EntryReads bytes two (Names named pool) (Fresh itself) (new_name_at table named pool bytes)
+each_name_reads table named pool bytes done at next index name n s fresh = new_name_reads table named pool bytes done at index next name n s (subst (λ all. Contains all name → ⊥) (map-id done) fresh)
 
 pub record NameTable (named : Naming) (pool : List Entry) (bytes : List ℕ) (at : ℕ) (x : List (List ℕ) × ℕ) : Type 0 where
   pub indices : List ℕ
   pub all : NameAll named pool indices x.0
   pub stands : Stands bytes at (counted two indices) x.1
 
-names_in : (named : Naming) (pool : List Entry) (bytes : List ℕ) (at : ℕ) (x : List (List ℕ) × ℕ) (t : Table bytes two (Names named pool) itself at x) → NameAll named pool t.rows x.0
-names_in named pool bytes at x t = record { few = t.table.few; each = t.table.each; distinct = subst AreDistinct (all_itself x.0) t.table.distinct }
-
-as_table : (named : Naming) (pool : List Entry) (indices : List ℕ) (names : List (List ℕ)) → NameAll named pool indices names → IsTable (Names named pool) itself indices names
-as_table named pool indices names n = record { few = n.few; each = n.each; distinct = subst AreDistinct (sym (all_itself names)) n.distinct }
-
 pub names_stand : (table : List ℕ) (named : Naming) (pool : List Entry) (bytes : List ℕ) (at : ℕ) (x : List (List ℕ) × ℕ) → IsBytes bytes → names_at table named pool bytes at ≡ Ok x
     → NameTable named pool bytes at x
 unfolding names_at
 names_stand table named pool bytes at x b e =
-    let t = table_stands short bytes two (Names named pool) itself (new_name_at table named pool bytes) (each_name_stands table named pool bytes b) at x b e in
-    record { indices = t.rows; all = names_in named pool bytes at x t; stands = t.stands }
+    let t = table_stands short bytes two (Names named pool) (Fresh itself) (new_name_at table named pool bytes) (each_name_stands table named pool bytes b) at x b e in
+    record { indices = t.rows; all = record { few = t.few; each = t.each; distinct = subst AreDistinct (map-id x.0) (is_table itself t).distinct }; stands = t.stands }
 
 pub names_read : (table : List ℕ) (named : Naming) (pool : List Entry) (bytes : List ℕ) (at next : ℕ) (indices : List ℕ) (names : List (List ℕ)) → NameAll named pool indices names
     → Stands bytes at (counted two indices) next → names_at table named pool bytes at ≡ Ok (names, next)
 unfolding names_at
 names_read table named pool bytes at next indices names n s =
-    table_reads short bytes two (Names named pool) itself (new_name_at table named pool bytes) (each_name_reads table named pool bytes) at next indices names (as_table named pool indices names n) s
+    is_read short bytes two (Names named pool) itself (new_name_at table named pool bytes) (each_name_reads table named pool bytes) at next indices names (record { few = n.few; each = n.each; distinct = subst AreDistinct (sym (map-id names)) n.distinct }) s
 
 -- ---- requires
 
 abbrev pub required_name : Requires → List ℕ
 required_name r = r.name
 
-requires_stand : (pool : List Entry) (bytes : List ℕ) → IsBytes bytes → EntryStands bytes requires_bytes (IsRequires pool) required_name (requires_at pool bytes)
+requires_stand : (pool : List Entry) (bytes : List ℕ) → IsBytes bytes → EntryStands bytes requires_bytes (IsRequires pool) (Fresh required_name) (requires_at pool bytes)
 unfolding requires_at
 requires_stand pool bytes b done at x e =
     let s1 = bind_ok (new_name_at (codes "requires") module_named pool bytes (map required_name done) at) _ x e in
     let s2 = bind_ok (number_at short 2 bytes s1.0.1) _ x s1.2 in
     let s3 = bind_ok (version_at pool bytes s2.0.1) _ x s2.2 in
     let n1 = new_name_stands (codes "requires") module_named pool bytes (map required_name done) at s1.0 b s1.1 in
-    let n2 = two_read short bytes s1.0.1 s2.0 b s2.1 in
+    let n2 = number_in short 2 bytes s1.0.1 s2.0 b s2.1 in
     let n3 = version_stands pool bytes s2.0.1 s3.0 b s3.1 in
-    subst (Row bytes requires_bytes (IsRequires pool) required_name done at) (ok_is _ _ s3.2) (record {
+    subst (Row bytes requires_bytes (IsRequires pool) (Fresh required_name) done at) (ok_is _ _ s3.2) (record {
       row = record { index = n1.name.index; flags = s2.0.0; version = n3.index };
       is = record {
         fits = (n2.small, n3.number.small);
@@ -166,7 +159,7 @@ requires_stand pool bytes b done at x e =
       fresh = n1.fresh;
     })
 
-requires_read : (pool : List Entry) (bytes : List ℕ) → EntryReads bytes requires_bytes (IsRequires pool) required_name (requires_at pool bytes)
+requires_read : (pool : List Entry) (bytes : List ℕ) → EntryReads bytes requires_bytes (IsRequires pool) (Fresh required_name) (requires_at pool bytes)
 unfolding requires_at
 requires_read pool bytes done at next row entry d s fresh =
     let s1 = first (two row.index) (two row.flags ++ two row.version) s in
@@ -179,14 +172,14 @@ requires_read pool bytes done at next row entry d s fresh =
     bind_to _ n1 (bind_to _ n2 (bind_to _ n3 (rw (sym d.transitive, sym d.is_static) refl)))
 
 pub requires_table_stands : (pool : List Entry) (bytes : List ℕ) (at : ℕ) (x : List Requires × ℕ) → IsBytes bytes → requires_table_at pool bytes at ≡ Ok x
-    → Table bytes requires_bytes (IsRequires pool) required_name at x
+    → Table bytes requires_bytes (IsRequires pool) (Fresh required_name) at x
 unfolding requires_table_at
-requires_table_stands pool bytes at x b e = table_stands short bytes requires_bytes (IsRequires pool) required_name (requires_at pool bytes) (requires_stand pool bytes b) at x b e
+requires_table_stands pool bytes at x b e = table_stands short bytes requires_bytes (IsRequires pool) (Fresh required_name) (requires_at pool bytes) (requires_stand pool bytes b) at x b e
 
 pub requires_table_reads : (pool : List Entry) (bytes : List ℕ) (at next : ℕ) (rows : List RequiresRow) (entries : List Requires) → IsTable (IsRequires pool) required_name rows entries
     → Stands bytes at (counted requires_bytes rows) next → requires_table_at pool bytes at ≡ Ok (entries, next)
 unfolding requires_table_at
-requires_table_reads pool bytes at next rows entries t s = table_reads short bytes requires_bytes (IsRequires pool) required_name (requires_at pool bytes) (requires_read pool bytes) at next rows entries t s
+requires_table_reads pool bytes at next rows entries t s = is_read short bytes requires_bytes (IsRequires pool) required_name (requires_at pool bytes) (requires_read pool bytes) at next rows entries t s
 
 -- ---- exports and opens
 
@@ -201,16 +194,16 @@ pub record GrantBy (named : Naming) (pool : List Entry) (r : GrantRow) (e : Gran
 abbrev pub granted_package : Grant → List ℕ
 granted_package g = g.«package»
 
-grant_stands : (table : List ℕ) (named : Naming) (pool : List Entry) (bytes : List ℕ) → IsBytes bytes → EntryStands bytes grant_bytes (GrantBy named pool) granted_package (grant_at table named pool bytes)
+grant_stands : (table : List ℕ) (named : Naming) (pool : List Entry) (bytes : List ℕ) → IsBytes bytes → EntryStands bytes grant_bytes (GrantBy named pool) (Fresh granted_package) (grant_at table named pool bytes)
 unfolding grant_at
 grant_stands table named pool bytes b done at x e =
     let s1 = bind_ok (new_name_at table named pool bytes (map granted_package done) at) _ x e in
     let s2 = bind_ok (number_at short 2 bytes s1.0.1) _ x s1.2 in
     let s3 = bind_ok (names_at (codes "targets") module_named pool bytes s2.0.1) _ x s2.2 in
     let n1 = new_name_stands table named pool bytes (map granted_package done) at s1.0 b s1.1 in
-    let n2 = two_read short bytes s1.0.1 s2.0 b s2.1 in
+    let n2 = number_in short 2 bytes s1.0.1 s2.0 b s2.1 in
     let n3 = names_stand (codes "targets") module_named pool bytes s2.0.1 s3.0 b s3.1 in
-    subst (Row bytes grant_bytes (GrantBy named pool) granted_package done at) (ok_is _ _ s3.2) (record {
+    subst (Row bytes grant_bytes (GrantBy named pool) (Fresh granted_package) done at) (ok_is _ _ s3.2) (record {
       row = record { index = n1.name.index; flags = s2.0.0; targets = n3.indices };
       is = record {
         fits = n2.small;
@@ -223,7 +216,7 @@ grant_stands table named pool bytes b done at x e =
       fresh = n1.fresh;
     })
 
-grant_reads : (table : List ℕ) (named : Naming) (pool : List Entry) (bytes : List ℕ) → EntryReads bytes grant_bytes (GrantBy named pool) granted_package (grant_at table named pool bytes)
+grant_reads : (table : List ℕ) (named : Naming) (pool : List Entry) (bytes : List ℕ) → EntryReads bytes grant_bytes (GrantBy named pool) (Fresh granted_package) (grant_at table named pool bytes)
 unfolding grant_at
 grant_reads table named pool bytes done at next row entry d s fresh =
     let s1 = first (two row.index) (two row.flags ++ counted two row.targets) s in
@@ -236,15 +229,15 @@ grant_reads table named pool bytes done at next row entry d s fresh =
     bind_to _ n1 (bind_to _ n2 (bind_to _ n3 (rw (sym d.to) refl)))
 
 pub grants_stand : (table : List ℕ) (named : Naming) (pool : List Entry) (bytes : List ℕ) (at : ℕ) (x : List Grant × ℕ) → IsBytes bytes → grants_at table named pool bytes at ≡ Ok x
-    → Table bytes grant_bytes (GrantBy named pool) granted_package at x
+    → Table bytes grant_bytes (GrantBy named pool) (Fresh granted_package) at x
 unfolding grants_at
-grants_stand table named pool bytes at x b e = table_stands short bytes grant_bytes (GrantBy named pool) granted_package (grant_at table named pool bytes) (grant_stands table named pool bytes b) at x b e
+grants_stand table named pool bytes at x b e = table_stands short bytes grant_bytes (GrantBy named pool) (Fresh granted_package) (grant_at table named pool bytes) (grant_stands table named pool bytes b) at x b e
 
 pub grants_read : (table : List ℕ) (named : Naming) (pool : List Entry) (bytes : List ℕ) (at next : ℕ) (rows : List GrantRow) (entries : List Grant) → IsTable (GrantBy named pool) granted_package rows entries
     → Stands bytes at (counted grant_bytes rows) next → grants_at table named pool bytes at ≡ Ok (entries, next)
 unfolding grants_at
 grants_read table named pool bytes at next rows entries t s =
-    table_reads short bytes grant_bytes (GrantBy named pool) granted_package (grant_at table named pool bytes) (grant_reads table named pool bytes) at next rows entries t s
+    is_read short bytes grant_bytes (GrantBy named pool) granted_package (grant_at table named pool bytes) (grant_reads table named pool bytes) at next rows entries t s
 
 -- ---- provides
 
@@ -254,63 +247,47 @@ pub record SomeNames (pool : List Entry) (bytes : List ℕ) (at : ℕ) (x : List
   pub stands : Stands bytes at (counted two indices) x.1
   pub some : indices ≡ [] → ⊥
 
-none_of_no_count : (indices : List ℕ) (n : ℕ) → length indices ≡ n → eqb n 0 ≡ false → indices ≡ [] → ⊥
-none_of_no_count indices n l e none =
-    let zero_many : n ≡ 0 = sym l ∙ ap length none in
-    let is : eqb n 0 ≡ true = eq-eqb n 0 zero_many in
-    absurd cc
-
 implementations_stand : (pool : List Entry) (bytes : List ℕ) (at : ℕ) (x : List (List ℕ) × ℕ) → IsBytes bytes → implementations_at pool bytes at ≡ Ok x → SomeNames pool bytes at x
-unfolding implementations_at
+unfolding implementations_at names_at
 implementations_stand pool bytes at x b e =
-    let one = new_name_at (codes "implementations") class_named pool bytes in
     let s = bind_ok (number_at short 2 bytes at) _ x e in
     let g = guard_ok (eqb s.0.0 0) (faults.BadIndex at) _ x s.2 in
-    let t = rows_counted bytes two (Names class_named pool) itself one (each_name_stands (codes "implementations") class_named pool bytes b) at s.0.0 s.0.1 x (two_read short bytes at s.0 b s.1) g.1 in
+    let t = names_stand (codes "implementations") class_named pool bytes at x b (bind_to _ s.1 g.1) in
+    let n = number_read short 2 bytes at (length t.indices) (at + 2) t.all.few (first (two (length t.indices)) (flat_map two t.indices) t.stands) in
+    let count : length t.indices ≡ s.0.0 = ap (λ (y : ℕ × ℕ). y.0) (ok_is _ _ (sym n ∙ s.1)) in
     record {
-      indices = t.0.rows;
-      all = names_in class_named pool bytes at x t.0;
-      stands = t.0.stands;
-      some = none_of_no_count t.0.rows s.0.0 t.1 g.0;
+      indices = t.indices;
+      all = t.all;
+      stands = t.stands;
+      some = λ none. absurd (cc (eq-eqb s.0.0 0 (sym count ∙ ap length none), g.0));
     }
-
-not_true : (b : Bool) → (b ≡ true → ⊥) → b ≡ false
-not_true true n = absurd (n refl)
-not_true false n = refl
-
-some_count : (indices : List ℕ) → (indices ≡ [] → ⊥) → eqb (length indices) 0 ≡ false
-some_count [] some = absurd (some refl)
-some_count (i ∷ is) some = not_true (eqb (length (i ∷ is)) 0) (λ e. absurd (omega (arith, eqb-true (length (i ∷ is)) 0 e)))
 
 implementations_read : (pool : List Entry) (bytes : List ℕ) (at next : ℕ) (indices : List ℕ) (names : List (List ℕ)) → NameAll class_named pool indices names → (indices ≡ [] → ⊥)
     → Stands bytes at (counted two indices) next → implementations_at pool bytes at ≡ Ok (names, next)
-unfolding implementations_at
+unfolding implementations_at names_at
 implementations_read pool bytes at next indices names n some s =
-    let one = new_name_at (codes "implementations") class_named pool bytes in
-    let t = as_table class_named pool indices names n in
-    let s1 = first (two (length indices)) (flat_map two indices) s in
-    let s2 = second (two (length indices)) (flat_map two indices) s in
-    let all = rows_read bytes two (Names class_named pool) itself one (each_name_reads (codes "implementations") class_named pool bytes) [] indices names (at + 2) next t.each s2 t.distinct in
-    bind_to _ (number_read short 2 bytes at (length indices) (at + 2) n.few s1) (rw (some_count indices some) all)
+    let count = number_read short 2 bytes at (length indices) (at + 2) n.few (first (two (length indices)) (flat_map two indices) s) in
+    let all = names_read (codes "implementations") class_named pool bytes at next indices names n s in
+    bind_to _ count (rw (ne_eqb (length indices) 0 (λ e. some (nil_from_length indices e))) (rw count at all))
 
 abbrev pub provided_service : Provides → List ℕ
 provided_service p = p.service
 
-provides_stand : (pool : List Entry) (bytes : List ℕ) → IsBytes bytes → EntryStands bytes provides_bytes (IsProvides pool) provided_service (provides_at pool bytes)
+provides_stand : (pool : List Entry) (bytes : List ℕ) → IsBytes bytes → EntryStands bytes provides_bytes (IsProvides pool) (Fresh provided_service) (provides_at pool bytes)
 unfolding provides_at
 provides_stand pool bytes b done at x e =
     let s1 = bind_ok (new_name_at (codes "provides") class_named pool bytes (map provided_service done) at) _ x e in
     let s2 = bind_ok (implementations_at pool bytes s1.0.1) _ x s1.2 in
     let n1 = new_name_stands (codes "provides") class_named pool bytes (map provided_service done) at s1.0 b s1.1 in
     let n2 = implementations_stand pool bytes s1.0.1 s2.0 b s2.1 in
-    subst (Row bytes provides_bytes (IsProvides pool) provided_service done at) (ok_is _ _ s2.2) (record {
+    subst (Row bytes provides_bytes (IsProvides pool) (Fresh provided_service) done at) (ok_is _ _ s2.2) (record {
       row = record { index = n1.name.index; classes = n2.indices };
       is = record { named = n1.name.is; all = n2.all; some = n2.some };
       stands = join n1.name.stands n2.stands;
       fresh = n1.fresh;
     })
 
-provides_read : (pool : List Entry) (bytes : List ℕ) → EntryReads bytes provides_bytes (IsProvides pool) provided_service (provides_at pool bytes)
+provides_read : (pool : List Entry) (bytes : List ℕ) → EntryReads bytes provides_bytes (IsProvides pool) (Fresh provided_service) (provides_at pool bytes)
 unfolding provides_at
 provides_read pool bytes done at next row entry d s fresh =
     let s1 = first (two row.index) (counted two row.classes) s in
@@ -320,11 +297,11 @@ provides_read pool bytes done at next row entry d s fresh =
     bind_to _ n1 (bind_to _ n2 refl)
 
 pub provides_table_stands : (pool : List Entry) (bytes : List ℕ) (at : ℕ) (x : List Provides × ℕ) → IsBytes bytes → provides_table_at pool bytes at ≡ Ok x
-    → Table bytes provides_bytes (IsProvides pool) provided_service at x
+    → Table bytes provides_bytes (IsProvides pool) (Fresh provided_service) at x
 unfolding provides_table_at
-provides_table_stands pool bytes at x b e = table_stands short bytes provides_bytes (IsProvides pool) provided_service (provides_at pool bytes) (provides_stand pool bytes b) at x b e
+provides_table_stands pool bytes at x b e = table_stands short bytes provides_bytes (IsProvides pool) (Fresh provided_service) (provides_at pool bytes) (provides_stand pool bytes b) at x b e
 
 pub provides_table_reads : (pool : List Entry) (bytes : List ℕ) (at next : ℕ) (rows : List ProvidesRow) (entries : List Provides) → IsTable (IsProvides pool) provided_service rows entries
     → Stands bytes at (counted provides_bytes rows) next → provides_table_at pool bytes at ≡ Ok (entries, next)
 unfolding provides_table_at
-provides_table_reads pool bytes at next rows entries t s = table_reads short bytes provides_bytes (IsProvides pool) provided_service (provides_at pool bytes) (provides_read pool bytes) at next rows entries t s
+provides_table_reads pool bytes at next rows entries t s = is_read short bytes provides_bytes (IsProvides pool) provided_service (provides_at pool bytes) (provides_read pool bytes) at next rows entries t s

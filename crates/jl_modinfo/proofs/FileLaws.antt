@@ -1,10 +1,9 @@
 -- A declaration file: what is read stands there, and what stands there is read.
 use Rattle.std.proofs.Common.{◌≡◌, ℕ, ◌+◌, List, [], ◌∷◌, ◌++◌, length, eqb, Option, None, Some, Result, Ok, Err, refl, sym, ap, ◌∙◌, subst, inl, inr}
-use Rattle.std.specs.Prelude.{IsTrue, IfOk, codes, ◌↔◌}
+use Rattle.std.specs.Prelude.{IsTrue, codes}
 use Rattle.std.proofs.lemmas.Bool.{eqb-true, eq-eqb}
-use Rattle.jl_logic.specs.Answers.{Gives}
-use Rattle.jl_reading.specs.Reading.{IsBytes, two}
-use Rattle.jl_reading.proofs.Steps.{bind_ok, ok_is}
+use Rattle.jl_reading.specs.Reading.{IsBytes, two, counted}
+use Rattle.jl_reading.proofs.Steps.{bind_ok, ok_is, bind_to, else_ok}
 use Rattle.jl_prim.specs.declared.declaration.Declaration.{Declaration}
 use Rattle.jl_pool.specs.declared.entry.Entry.{Entry}
 use Rattle.jl_pool.specs.declared.fault.PoolFault.{PoolFault}
@@ -13,15 +12,14 @@ use Rattle.jl_pool.specs.Spelling.{StandsPool}
 use Rattle.jl_pool.proofs.Whole.{pool_stands, pool_again}
 use Rattle.jl_modinfo.specs.declared.module.Module.{Module}
 use Rattle.jl_modinfo.specs.declared.attribute.Attributes.{Attributes}
-use Rattle.jl_modinfo.specs.declared.fault.InfoFault.{InfoFault}
 use Rattle.jl_modinfo.specs.declared.fault.InfoFault.TheVariants as faults
-use Rattle.jl_modinfo.specs.Faults.{told, pool_or}
+use Rattle.jl_modinfo.specs.Faults.{pool_or}
 use Rattle.jl_modinfo.specs.Rules.{keeps_base_rule, missing_package}
-use Rattle.jl_modinfo.specs.Info.{Attribute, IsInfo, ArePackages, IsMain, body_bytes, counted, attribute_bytes, contents}
+use Rattle.jl_modinfo.specs.Info.{Attribute, IsInfo, ArePackages, IsMain, body_bytes, attribute_bytes, contents}
 use Rattle.jl_modinfo.specs.Reading.{attributes_at, whole, ruled, all_there, or_found, declaration_of, front_at, empty_class_at, info_of}
 use Rattle.jl_modinfo.proofs.FrontLaws.{Front, front_stands, front_reads, EmptyClass, empty_class_stands, empty_class_reads}
 use Rattle.jl_modinfo.proofs.AttributeLaws.{AtMostOne, IsPackagesContent, IsMainContent, Declared, AllStand, attributes_stand, attributes_again}
-use Rattle.jl_modinfo.proofs.Standing.{join, first, second, ends_at, bind_to, else_ok}
+use Rattle.jl_reading.proofs.Standing.{join, first, second, ends_at}
 
 -- ---- the rules
 
@@ -212,26 +210,3 @@ info_reads bytes found d i =
     let a = attributes_again i.pool bytes next (length bytes) i.attributes (record { «module» = Some (module_in d); packages = l.listed; main = d.main }) (declared_in bytes found d i l) i.numbers.2 i.fit s2 in
     bind_to _ f (bind_to _ p (bind_to _ c (bind_to _ a
     (whole_so found bytes (module_in d) l.listed d.main d (same_declaration d (or_found found l.listed) l.same) i.base i.none_missing))))
-
--- ---- what a call answers
-
-pub found_in : (bytes : List ℕ) (found : List (List ℕ)) (r : Result Declaration InfoFault) → IsBytes bytes → Gives told (λ (d : Declaration). d) r (info_of bytes found)
-    → IfOk r (λ d. IsInfo bytes found d)
-found_in bytes found (Ok d) b g = info_stands bytes found d b g
-found_in bytes found (Err e) b g = tt
-
-pub only_in : (bytes : List ℕ) (found : List (List ℕ)) (r : Result Declaration InfoFault) → Gives told (λ (d : Declaration). d) r (info_of bytes found)
-    → (d : Declaration) → IsInfo bytes found d → Gives told (λ (d : Declaration). d) r (Ok d)
-only_in bytes found r g d i = subst (λ (x : Result Declaration InfoFault). Gives told (λ (d : Declaration). d) r x) (info_reads bytes found d i) g
-
-not_both : (r : Result Declaration InfoFault) (f : InfoFault) (d : Declaration) → r ≡ Err f → r ≡ Ok d → ⊥
-not_both (Ok x) f d e g = absurd cc
-not_both (Err x) f d e g = absurd cc
-
-fault_or : (bytes : List ℕ) (found : List (List ℕ)) (r : Result Declaration InfoFault) → IsBytes bytes → info_of bytes found ≡ r → ((d : Declaration) → IsInfo bytes found d → ⊥) → (f : InfoFault) × (info_of bytes found ≡ Err f)
-fault_or bytes found (Ok d) b e none = absurd (none d (info_stands bytes found d b e))
-fault_or bytes found (Err f) b e none = (f, e)
-
--- there is a fault exactly where there is no declaration
-pub fault_or_declaration : (bytes : List ℕ) (found : List (List ℕ)) → IsBytes bytes → ((f : InfoFault) × (info_of bytes found ≡ Err f)) ↔ ((d : Declaration) → IsInfo bytes found d → ⊥)
-fault_or_declaration bytes found b = ((λ f d i. not_both (info_of bytes found) f.0 d f.1 (info_reads bytes found d i)), fault_or bytes found (info_of bytes found) b refl)

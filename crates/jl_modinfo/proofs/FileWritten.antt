@@ -4,24 +4,27 @@ use Rattle.std.specs.Prelude.{Result, Ok, Err, IfOk, codes}
 use Rattle.std.specs.List.{flat_map, AllByRecursion}
 use Rattle.std.proofs.lemmas.List.{append-nil, length-append, drop_at}
 use Rattle.std.proofs.lemmas.List.Concat.{flat_map-cons}
-use Rattle.jl_reading.specs.Reading.{Stands, two}
+use Rattle.jl_reading.specs.Reading.{Stands, two, counted}
 use Rattle.jl_reading.proofs.Stands.{Stands-from_parts}
 use Rattle.jl_prim.specs.declared.declaration.Declaration.{Declaration}
 use Rattle.jl_pool.specs.declared.constant.Constant.{Constant}
 use Rattle.jl_pool.specs.declared.constant.Constant.TheVariants as constants
 use Rattle.jl_pool.specs.declared.entry.Entry.{Entry}
 use Rattle.jl_pool.specs.declared.entry.Entry.TheVariants as entries
+use Rattle.jl_names.specs.Names.{names_a_class}
+use Rattle.jl_modinfo.specs.Meaning.{package_named}
 use Rattle.jl_pool.specs.Builder.{has, pool_of, entries_of, AreKept}
 use Rattle.jl_pool.specs.Pool.{text_of}
 use Rattle.jl_pool.specs.Spelling.{entry_bytes}
 use Rattle.jl_pool.proofs.PoolLaws.{makes_pool}
-use Rattle.jl_modinfo.specs.Info.{Attribute, counted, attribute_bytes, back_bytes, body_bytes, contents, AttributeFits, IsMain, IsInfo}
+use Rattle.jl_modinfo.specs.Info.{Attribute, attribute_bytes, back_bytes, body_bytes, contents, AttributeFits, IsMain, IsInfo}
 use Rattle.jl_modinfo.specs.Writing.{KeepsRules, IsFineMain, write_told, accepted}
 use Rattle.jl_logic.specs.Answers.{Gives}
 use Rattle.jl_modinfo.specs.declared.fault.InfoWriteFault.{InfoWriteFault}
 use Rattle.jl_modinfo.specs.Layout.{package_constant, main_constants, front_constants, table_constants, back_constants, named_constants, class_index, package_index, body_of, named_attribute, main_attributes, attributes_of, counted_by, class_bytes, package_bytes, body_written, attribute_written, main_written, attribute_count, attributes_written, class_written, front_written, pool_written, file_written, AreFew}
-use Rattle.jl_modinfo.proofs.IndexLaws.{class_there, class_text_there, text_there, small}
-use Rattle.jl_modinfo.proofs.BodyWritten.{all_front, all_back, body_is, body_same, counted_same, packages_there}
+use Rattle.jl_modinfo.proofs.IndexLaws.{class_there, package_there, class_text_there, text_there, small}
+use Rattle.jl_modinfo.proofs.AllLaws.{all_front, all_back}
+use Rattle.jl_modinfo.proofs.BodyWritten.{body_is, body_same, counted_same, names_there}
 
 -- ---- the parts stand one behind the other
 
@@ -77,6 +80,9 @@ record AreRight (pool : List Entry) (a b : Attribute) (rest : List Attribute) (m
   pub main : IsMain pool (a ∷ b ∷ rest) m
 
 module _ (cs : List Constant) (kept : AreKept cs) where
+  abbrev There : Constant → Type 0
+  There c = has cs c ≡ true
+
   named_fits : (name content : List ℕ) → has cs (constants.Text name) ≡ true → length content < 4294967296 → AttributeFits (pool_of cs) (named_attribute cs name content)
   named_fits name content there lt = (small cs kept (constants.Text name) there, lt, (name, text_there cs kept name there))
 
@@ -108,10 +114,10 @@ module _ (cs : List Constant) (kept : AreKept cs) where
   pub whole : (d : Declaration) → AllByRecursion (λ (c : Constant). has cs c ≡ true) (named_constants d) → AreFew d → length (body_written cs d) < 4294967296 → length (counted_by (package_bytes cs) d.packages) < 4294967296
       → KeepsRules d → (found : List (List ℕ)) → IsInfo (file_written cs d) found d
   whole d there few lt_body lt_packages rules found =
-      let front = all_front (λ (c : Constant). has cs c ≡ true) (front_constants d) (table_constants d ++ back_constants d) there in
-      let behind = all_back (λ (c : Constant). has cs c ≡ true) (table_constants d) (back_constants d) (all_back (λ (c : Constant). has cs c ≡ true) (front_constants d) (table_constants d ++ back_constants d) there) in
-      let packages = all_front (λ (c : Constant). has cs c ≡ true) (map package_constant d.packages) (main_constants d.main) behind.1 in
-      let main = all_back (λ (c : Constant). has cs c ≡ true) (map package_constant d.packages) (main_constants d.main) behind.1 in
+      let front = all_front There (front_constants d) (table_constants d ++ back_constants d) there in
+      let behind = all_back There (table_constants d) (back_constants d) (all_back There (front_constants d) (table_constants d ++ back_constants d) there) in
+      let packages = all_front There (map package_constant d.packages) (main_constants d.main) behind.1 in
+      let main = all_back There (map package_constant d.packages) (main_constants d.main) behind.1 in
       let body = body_bytes (body_of cs d) in
       let list = counted two (map (package_index cs) d.packages) in
       let rest = class_written cs ++ attributes_written cs d in
@@ -149,7 +155,7 @@ module _ (cs : List Constant) (kept : AreKept cs) where
         fit = right.fit;
         module_there = right.declared;
         declares = body_is cs kept d there few rules;
-        packages = inr (map (package_index cs) d.packages, right.listed, packages_there cs kept d.packages packages rules.packages few.packages rules.distinct_packages);
+        packages = inr (map (package_index cs) d.packages, right.listed, names_there cs kept package_named package_constant names_a_class (package_there cs kept) d.packages packages rules.packages few.packages rules.distinct_packages);
         main = right.main;
         base = rules.base;
         none_missing = rules.none_missing;

@@ -1,16 +1,16 @@
 -- The file up to its attributes: what is read stands there, and what stands there is read.
-use Rattle.std.proofs.Common.{◌≡◌, ℕ, ◌+◌, ◌<◌, List, ◌++◌, Bool, true, false, eqb, Option, None, Some, Ok, refl, ap, inl, inr, arith}
+use Rattle.std.proofs.Common.{◌≡◌, ℕ, ◌+◌, ◌<◌, List, ◌++◌, true, eqb, Option, None, Some, Ok, refl, ap, inl, inr, arith}
 use Rattle.std.specs.Prelude.{◌⊎◌, ◌||◌, codes}
-use Rattle.std.proofs.lemmas.Bool.{eqb-true}
+use Rattle.std.proofs.lemmas.Bool.{eqb-true, or_cases}
 use Rattle.std.specs.Cmp.Lexicographic.{bytes_decides}
 use Rattle.jl_reading.specs.Reading.{Stands, IsBytes, number_at, two, four}
-use Rattle.jl_reading.proofs.Steps.{bind_ok, ok_is}
+use Rattle.jl_reading.proofs.Steps.{bind_ok, ok_is, bind_to, not_ok, else_ok}
 use Rattle.jl_pool.specs.declared.entry.Entry.{Entry}
 use Rattle.jl_modinfo.specs.declared.fault.InfoFault.TheVariants as faults
 use Rattle.jl_modinfo.specs.Faults.{short}
 use Rattle.jl_modinfo.specs.Meaning.{class_text, is_module_info}
 use Rattle.jl_modinfo.specs.Reading.{front_at, zero_at, this_at, empty_class_at}
-use Rattle.jl_modinfo.proofs.Standing.{two_read, four_read, number_read, join, first, second, known, ends_at, bind_to, not_ok, else_ok}
+use Rattle.jl_reading.proofs.Standing.{number_in, number_read, join, first, second, known, ends_at}
 
 -- ---- magic and version
 
@@ -21,12 +21,8 @@ pub record Front (bytes : List ℕ) (at : ℕ) : Type 0 where
   pub stands : Stands bytes 0 (four 0xCAFEBABE ++ (two minor ++ two major)) at
   pub version : (major ≡ 53) ⊎ (major ≡ 54)
 
-either : (a b : Bool) → (a || b) ≡ true → (a ≡ true) ⊎ (b ≡ true)
-either true b e = inl refl
-either false b e = inr e
-
 is_version : (major : ℕ) → (eqb major 53 || eqb major 54) ≡ true → (major ≡ 53) ⊎ (major ≡ 54)
-is_version major e = elim (either (eqb major 53) (eqb major 54) e) [
+is_version major e = elim (or_cases (eqb major 53) (eqb major 54) e) [
   | inl a ↦ inl (eqb-true major 53 a)
   | inr a ↦ inr (eqb-true major 54 a)
 ]
@@ -39,9 +35,9 @@ front_stands bytes at b e =
     let s2 = bind_ok (number_at short 2 bytes s1.0.1) _ at g1.1 in
     let s3 = bind_ok (number_at short 2 bytes s2.0.1) _ at s2.2 in
     let g3 = else_ok (eqb s3.0.0 53 || eqb s3.0.0 54) faults.BadVersion (Ok s3.0.1) at s3.2 in
-    let n1 = four_read short bytes 0 s1.0 b s1.1 in
-    let n2 = two_read short bytes s1.0.1 s2.0 b s2.1 in
-    let n3 = two_read short bytes s2.0.1 s3.0 b s3.1 in
+    let n1 = number_in short 4 bytes 0 s1.0 b s1.1 in
+    let n2 = number_in short 2 bytes s1.0.1 s2.0 b s2.1 in
+    let n3 = number_in short 2 bytes s2.0.1 s3.0 b s3.1 in
     let magic : s1.0.0 ≡ 0xCAFEBABE = eqb-true s1.0.0 0xCAFEBABE g1.0 in
     let end : s3.0.1 ≡ at = ok_is _ _ g3.1 in
     record {
@@ -93,7 +89,7 @@ unfolding zero_at
 zero_stands field bytes at next b e =
     let s = bind_ok (number_at short 2 bytes at) _ next e in
     let g = else_ok (eqb s.0.0 0) (faults.NotModule field) (Ok s.0.1) next s.2 in
-    ends_at next (ok_is _ _ g.1) (known 0 (eqb-true s.0.0 0 g.0) (two_read short bytes at s.0 b s.1))
+    ends_at next (ok_is _ _ g.1) (known 0 (eqb-true s.0.0 0 g.0) (number_in short 2 bytes at s.0 b s.1))
 
 zero_reads : (field bytes : List ℕ) (at next : ℕ) → Stands bytes at (two 0) next → zero_at field bytes at ≡ Ok next
 unfolding zero_at
@@ -112,8 +108,8 @@ this_stands pool bytes at next b e =
     let g1 = not_ok (eqb s1.0.0 0x8000) (faults.NotModule (codes "flags")) _ next s1.2 in
     let s2 = bind_ok (number_at short 2 bytes s1.0.1) _ next g1.1 in
     let g2 = else_ok (is_module_info (class_text pool s2.0.0)) (faults.NotModule (codes "this")) (Ok s2.0.1) next s2.2 in
-    let n1 = two_read short bytes at s1.0 b s1.1 in
-    let n2 = two_read short bytes s1.0.1 s2.0 b s2.1 in
+    let n1 = number_in short 2 bytes at s1.0 b s1.1 in
+    let n2 = number_in short 2 bytes s1.0.1 s2.0 b s2.1 in
     record {
       this = s2.0.0;
       small = n2.small;

@@ -11,11 +11,11 @@ use Rattle.jl_names.proofs.Utf16Laws.{utf16_back, utf16_paired}
 use Rattle.jl_prim.specs.Names.{names_a_module}
 use Rattle.jl_pool.specs.declared.constant.Constant.{Constant}
 use Rattle.jl_pool.specs.declared.constant.Constant.TheVariants as constants
-use Rattle.jl_pool.specs.Pool.{utf8_of, utf8_units, text_of, class_name, module_name, package_name}
+use Rattle.jl_pool.specs.Pool.{paired, that, text_that, utf8_of, utf8_units, text_of, class_name, module_name, package_name, class_named}
 use Rattle.jl_pool.specs.Builder.{is_same, text_in, has, with_constant, with_needed, index_of, index_in, pool_of, IsKept, AreKept}
 use Rattle.jl_pool.proofs.BuilderLaws.{same_is, has_kept, has_new}
 use Rattle.jl_pool.proofs.PoolLaws.{entry_there, index_fits}
-use Rattle.jl_modinfo.specs.Meaning.{units_that, module_named, package_named, class_named, class_text}
+use Rattle.jl_modinfo.specs.Meaning.{module_named, package_named, class_text}
 use Rattle.jl_modinfo.specs.Info.{Names}
 use Rattle.jl_modinfo.specs.Layout.{with_all, module_index, class_index, package_index}
 
@@ -57,8 +57,9 @@ module _ (cs : List Constant) (kept : AreKept cs) where
   text_in_pool : (c : Constant) → has cs c ≡ true → has cs (constants.Text (text_in c)) ≡ true
   text_in_pool c e = (kept_of cs cs c kept.each e).text
 
-  units_named : (test : List ℕ → Bool) (t : List ℕ) → IsUtf8 t → test t ≡ true → units_that test (utf16 t) ≡ Some t
-  units_named test t u e = rw (utf16_paired t u, utf16_back t u, e) refl
+  text_named : (is_name : List ℕ → Bool) (c : Constant) → has cs c ≡ true → is_name (text_in c) ≡ true → text_that is_name (pool_of cs) (index_of cs (constants.Text (text_in c))) ≡ Some (text_in c)
+  text_named is_name c e fine =
+      ap (λ o. option_and_then (that is_name) (option_and_then paired o)) (units_at (text_in c) (text_in_pool c e)) ∙ rw (utf16_paired (text_in c) (utf8_in c e), utf16_back (text_in c) (utf8_in c e), fine) refl
 
   pub text_there : (t : List ℕ) → has cs (constants.Text t) ≡ true → text_of (pool_of cs) (index_in cs (constants.Text t)) ≡ Some t
   text_there t e =
@@ -68,24 +69,21 @@ module _ (cs : List Constant) (kept : AreKept cs) where
   class_there t e fine = (
     small (constants.Class t) e,
     ap (class_named (pool_of cs)) (index_is (constants.Class t) e)
-        ∙ (ap (λ o. option_and_then (units_that names_a_class) (option_and_then (utf8_of (pool_of cs)) (class_name o))) (entry_there cs (constants.Class t) e)
-        ∙ (ap (option_and_then (units_that names_a_class)) (units_at t (text_in_pool (constants.Class t) e)) ∙ units_named names_a_class t (utf8_in (constants.Class t) e) fine)),
+        ∙ (ap (λ o. option_and_then (text_that names_a_class (pool_of cs)) (class_name o)) (entry_there cs (constants.Class t) e) ∙ text_named names_a_class (constants.Class t) e fine),
   )
 
   pub module_there : (t : List ℕ) → has cs (constants.Module t) ≡ true → names_a_module t ≡ true → Names module_named (pool_of cs) (module_index cs t) t
   module_there t e fine = (
     small (constants.Module t) e,
     ap (module_named (pool_of cs)) (index_is (constants.Module t) e)
-        ∙ (ap (λ o. option_and_then (units_that names_a_module) (option_and_then (utf8_of (pool_of cs)) (module_name o))) (entry_there cs (constants.Module t) e)
-        ∙ (ap (option_and_then (units_that names_a_module)) (units_at t (text_in_pool (constants.Module t) e)) ∙ units_named names_a_module t (utf8_in (constants.Module t) e) fine)),
+        ∙ (ap (λ o. option_and_then (text_that names_a_module (pool_of cs)) (module_name o)) (entry_there cs (constants.Module t) e) ∙ text_named names_a_module (constants.Module t) e fine),
   )
 
   pub package_there : (t : List ℕ) → has cs (constants.Package t) ≡ true → names_a_class t ≡ true → Names package_named (pool_of cs) (package_index cs t) t
   package_there t e fine = (
     small (constants.Package t) e,
     ap (package_named (pool_of cs)) (index_is (constants.Package t) e)
-        ∙ (ap (λ o. option_and_then (units_that names_a_class) (option_and_then (utf8_of (pool_of cs)) (package_name o))) (entry_there cs (constants.Package t) e)
-        ∙ (ap (option_and_then (units_that names_a_class)) (units_at t (text_in_pool (constants.Package t) e)) ∙ units_named names_a_class t (utf8_in (constants.Package t) e) fine)),
+        ∙ (ap (λ o. option_and_then (text_that names_a_class (pool_of cs)) (package_name o)) (entry_there cs (constants.Package t) e) ∙ text_named names_a_class (constants.Package t) e fine),
   )
 
   pub class_text_there : (t : List ℕ) → has cs (constants.Class t) ≡ true → class_text (pool_of cs) (class_index cs t) ≡ Some t

@@ -1,13 +1,12 @@
 mod Rows
 mod TextRows
-pub mod Standing
 pub mod WritingLaws
 pub mod MoreLaws
+pub mod AllLaws
 pub mod LimitLaws
 pub mod MemberLaws
 pub mod NeedLaws
 pub mod NameLaws
-pub mod AttributesLoop
 pub mod OnceLaws
 pub mod PackageLaws
 pub mod FrontLaws

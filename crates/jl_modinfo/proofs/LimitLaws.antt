@@ -7,7 +7,8 @@ use Rattle.jl_prim.specs.declared.declaration.Grant.{Grant}
 use Rattle.jl_prim.specs.declared.declaration.Provides.{Provides}
 use Rattle.jl_prim.specs.declared.declaration.Declaration.{Declaration}
 use Rattle.jl_modinfo.specs.Writing.{Counted, targets, target_counts, class_counts, tables}
-use Rattle.jl_modinfo.specs.Layout.{first_long, has_long_targets, has_long_classes, or_else, named_if, long_of_grants, long_behind_grants, long_in_file, AreTargetsFew, AreClassesFew, AreFew}
+use Rattle.jl_modinfo.specs.Layout.{first_long, has_long_targets, has_long_classes, or_else, named_if, long_of_grants, long_behind_grants, long_in_file, AreFew}
+use Rattle.jl_modinfo.proofs.AllLaws.{all_front, all_back, all_of}
 
 -- one table before others
 one_long : (name : List ℕ) (n : ℕ) (rest : List Counted) → or_else (named_if name (nat_lt 65535 n)) (first_long rest) ≡ first_long ((name, n) ∷ rest)
@@ -67,28 +68,15 @@ file_long d =
 
 -- ---- no table is too long
 
-all_few : (ts : List Counted) → first_long ts ≡ None → AllByRecursion (λ (t : Counted). t.1 < 65536) ts
+abbrev IsFew : Counted → Type 0
+IsFew t = t.1 < 65536
+
+all_few : (ts : List Counted) → first_long ts ≡ None → AllByRecursion IsFew ts
 all_few [] e = tt
 all_few (t ∷ ts) e = elim (cases_Bool (nat_lt 65535 t.1)) [
   | inl l ↦ absurd (cc (l, e))
   | inr s ↦ (let f = ltb-false 65535 t.1 s in omega (arith, f), all_few ts (rw s at e))
 ]
-
-all_front : (xs ys : List Counted) → AllByRecursion (λ (t : Counted). t.1 < 65536) (xs ++ ys) → AllByRecursion (λ (t : Counted). t.1 < 65536) xs
-all_front [] ys a = tt
-all_front (x ∷ xs) ys a = (a.0, all_front xs ys a.1)
-
-all_back : (xs ys : List Counted) → AllByRecursion (λ (t : Counted). t.1 < 65536) (xs ++ ys) → AllByRecursion (λ (t : Counted). t.1 < 65536) ys
-all_back [] ys a = a
-all_back (x ∷ xs) ys a = all_back xs ys a.1
-
-of_targets : (grants : List Grant) → AllByRecursion (λ (t : Counted). t.1 < 65536) (target_counts grants) → AreTargetsFew grants
-of_targets [] a = tt
-of_targets (g ∷ gs) a = (a.0, of_targets gs a.1)
-
-of_classes : (provides : List Provides) → AllByRecursion (λ (t : Counted). t.1 < 65536) (class_counts provides) → AreClassesFew provides
-of_classes [] a = tt
-of_classes (p ∷ ps) a = (a.0, of_classes ps a.1)
 
 pub are_few : (d : Declaration) → first_long (tables d) ≡ None → AreFew d
 are_few d e =
@@ -97,16 +85,16 @@ are_few d e =
     let last = (codes "uses", length d.uses) ∷ (codes "provides", length d.provides) ∷ provides in
     let opens = (codes "opens", length d.opens) ∷ (target_counts d.opens ++ last) in
     let all = all_few (tables d) e in
-    let from_opens = all_back (target_counts d.exports) opens all.1.1 in
-    let from_uses = all_back (target_counts d.opens) last from_opens.1 in
+    let from_opens = all_back IsFew (target_counts d.exports) opens all.1.1 in
+    let from_uses = all_back IsFew (target_counts d.opens) last from_opens.1 in
     record {
       required = all.0;
       exports = all.1.0;
-      exported = of_targets d.exports (all_front (target_counts d.exports) opens all.1.1);
+      exported = all_of IsFew (λ (g : Grant). (codes "targets", length (targets g))) d.exports (all_front IsFew (target_counts d.exports) opens all.1.1);
       opens = from_opens.0;
-      opened = of_targets d.opens (all_front (target_counts d.opens) last from_opens.1);
+      opened = all_of IsFew (λ (g : Grant). (codes "targets", length (targets g))) d.opens (all_front IsFew (target_counts d.opens) last from_opens.1);
       uses = from_uses.0;
       provides = from_uses.1.0;
-      provided = of_classes d.provides (all_front (class_counts d.provides) packages from_uses.1.1);
-      packages = (all_back (class_counts d.provides) packages from_uses.1.1).0;
+      provided = all_of IsFew (λ (p : Provides). (codes "implementations", length p.implementations)) d.provides (all_front IsFew (class_counts d.provides) packages from_uses.1.1);
+      packages = (all_back IsFew (class_counts d.provides) packages from_uses.1.1).0;
     }

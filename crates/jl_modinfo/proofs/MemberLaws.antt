@@ -5,14 +5,12 @@ use Rattle.std.specs.List.{list_all, sum_by, AllByRecursion}
 use Rattle.std.proofs.lemmas.Bool.{cases_Bool, ltb-true, ltb-false, lt-ltb, le-ltb, leb-true, le-leb}
 use Rattle.std.proofs.Math.Nat.{add_comm}
 use Rattle.std.proofs.lemmas.List.Sums.{sum_by-cons}
-use Rattle.jl_prim.specs.declared.declaration.Grant.{Grant}
-use Rattle.jl_prim.specs.declared.declaration.Provides.{Provides}
 use Rattle.jl_prim.specs.declared.declaration.Declaration.{Declaration}
 use Rattle.jl_names.specs.Text.{text_bytes}
 use Rattle.jl_names.specs.Utf16.{utf16}
 use Rattle.jl_pool.specs.declared.constant.Constant.{Constant}
 use Rattle.jl_pool.specs.Builder.{text_in, IsShort}
-use Rattle.jl_modinfo.specs.Writing.{Need, AreShort, Counted, targets, target_counts, class_counts, tables, sum_counts, members}
+use Rattle.jl_modinfo.specs.Writing.{Need, AreShort, Counted, target_counts, class_counts, sum_counts, members}
 use Rattle.jl_modinfo.specs.Layout.{capped, target_length, class_length, is_short_constant, need_of, named_constants}
 use Rattle.jl_modinfo.proofs.NeedLaws.{named_same, need_text}
 

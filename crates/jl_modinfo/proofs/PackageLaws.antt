@@ -2,10 +2,9 @@
 use Rattle.std.proofs.Common.{◌≡◌, ℕ, ◌<◌, List, [], ◌∷◌, length, take, slice_index, Bool, true, false, refl, ap, arith}
 use Rattle.std.specs.Prelude.{IsCharBoundary, IsUtf8}
 use Rattle.std.specs.List.{list_any}
-use Rattle.std.proofs.lemmas.Bool.{eqb-true}
+use Rattle.std.proofs.lemmas.Bool.{eqb-true, or_parts}
 use Rattle.std.proofs.lemmas.Str.{IsCharBoundary-start}
 use Rattle.jl_names.specs.Names.{is_slash, package_of}
-use Rattle.jl_modinfo.proofs.NameLaws.{neither}
 
 front_step : (b : ℕ) (bs : List ℕ) (any : Bool) → list_any is_slash bs ≡ any → take (length (package_of bs)) bs ≡ package_of bs → take (length (package_of (b ∷ bs))) (b ∷ bs) ≡ package_of (b ∷ bs)
 unfolding package_of
@@ -40,7 +39,7 @@ package_boundary name u = by_slash (list_any is_slash name) refl
   where
     none : (n : List ℕ) → list_any is_slash n ≡ false → package_of n ≡ []
     none [] e = refl
-    none (b ∷ bs) e = rw (neither (is_slash b) (list_any is_slash bs) e).1 refl
+    none (b ∷ bs) e = rw (or_parts (is_slash b) (list_any is_slash bs) e).1 refl
 
     by_slash : (any : Bool) → list_any is_slash name ≡ any → IsCharBoundary name (length (package_of name))
     by_slash true e = let h = slash_behind name e in (omega (arith, h.0), λ l wide. absurd (omega (arith, h.1)))

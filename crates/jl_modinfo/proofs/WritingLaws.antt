@@ -1,11 +1,13 @@
 -- How many constants there are, and that what is entered in turn is each of them once.
 use Rattle.std.proofs.Common.{◌≡◌, ℕ, ◌+◌, ◌<◌, ◌≤◌, Bool, true, false, ◌||◌, List, [], ◌∷◌, ◌++◌, map, take, drop, get_or, length, refl, sym, ap, ap₂, true≢false, subst, ◌∙◌, arith, inl, inr}
-use Rattle.std.specs.Prelude.{◌⊎◌, Result, Ok, Err, if◌then◌else◌}
+use Rattle.std.specs.Prelude.{◌⊎◌, Ok, Err, if◌then◌else◌}
 use Rattle.std.specs.List.{list_any, flat_map}
+use Rattle.std.proofs.Math.Bool.{or-false}
 use Rattle.std.proofs.lemmas.Bool.{cases_Bool, cases_lt, lt-ltb, le-ltb}
 use Rattle.std.proofs.lemmas.List.{take_more, take-append-drop}
 use Rattle.std.proofs.lemmas.List.Concat.{flat_map-cons}
 use Rattle.jl_logic.specs.Answers.{Fails}
+use Rattle.jl_reading.proofs.Steps.{ok_is}
 use Rattle.jl_pool.specs.declared.constant.Constant.{Constant}
 use Rattle.jl_pool.specs.declared.constant.Constant.TheVariants as constants
 use Rattle.jl_pool.specs.declared.constant.BuildEnd.{BuildEnd}
@@ -25,9 +27,6 @@ fitting_ok cs lt = rw (le-ltb 65534 (length cs) (omega arith)) refl
 
 pub fitting_err : (cs : List Constant) → 65535 ≤ length cs → fitting cs ≡ Err ends.TooMany
 fitting_err cs le = rw (lt-ltb 65534 (length cs) (omega arith)) refl
-
-ok_is : (a b : List Constant) → ◌≡◌ {A = Result (List Constant) BuildEnd} (Ok a) (Ok b) → a ≡ b
-ok_is a b e = cc
 
 pub fitting_is : (cs ds : List Constant) → fitting cs ≡ Ok ds → (cs ≡ ds) × (length cs < 65535)
 fitting_is cs ds e = elim (fits_or cs) [
@@ -126,10 +125,6 @@ not_back n m e = elim (cases_Bool (is_same m n)) [
   | inr f ↦ f
 ]
 
-or_none : (b : Bool) → (b || false) ≡ b
-or_none true = refl
-or_none false = refl
-
 -- one more, by the tests that it meets
 plus : (b c d : Bool) (f g : ℕ) → c ≡ false → d ≡ true → f ≡ g + (if b then 1 else 0)
     → (if b then 0 else if c then 0 else 1) + f ≡ ((if b then 0 else if d then 0 else 1) + g) + 1
@@ -154,7 +149,7 @@ marked_same old n m ms none t e =
 marked_other : (old : List Constant) (n m : Constant) (ms : List Constant) → is_same n m ≡ false → fresh old ms ≡ fresh (old ++ n ∷ []) ms + (if has ms n then 1 else 0)
     → fresh old (m ∷ ms) ≡ fresh (old ++ n ∷ []) (m ∷ ms) + (if has (m ∷ ms) n then 1 else 0)
 marked_other old n m ms f e =
-    let same : has old m ≡ has (old ++ n ∷ []) m = sym (has_push old n m ∙ (ap (λ (b : Bool). has old m || b) (not_back n m f) ∙ or_none (has old m))) in
+    let same : has old m ≡ has (old ++ n ∷ []) m = sym (has_push old n m ∙ (ap (λ (b : Bool). has old m || b) (not_back n m f) ∙ or-false (has old m))) in
     keeps (has ms m) (has old m) (has (old ++ n ∷ []) m) (has ms n) (fresh old ms) (fresh (old ++ n ∷ []) ms) same e
     ∙ ap (λ (b : Bool). fresh (old ++ n ∷ []) (m ∷ ms) + (if b || has ms n then 1 else 0)) (sym f)
 

@@ -1,17 +1,17 @@
 -- The spelling of a declaration file: a relation between its bytes and a declaration (JVMS 4.1, 4.7.25 to 4.7.27).
-use Rattle.std.specs.Prelude.{◌≡◌, ℕ, ◌<◌, List, [], ◌∷◌, ◌++◌, length, map, filter, Option, None, Some, IsTrue, Bool, true, false, codes, ◌⊎◌, ⊤}
-use Rattle.std.specs.List.{flat_map, AllByRecursion}
+use Rattle.std.specs.Prelude.{◌≡◌, ℕ, ◌<◌, List, [], ◌∷◌, ◌++◌, length, map, filter, Option, None, Some, IsTrue, Bool, true, false, codes, ◌⊎◌}
+use Rattle.std.specs.List.{AllByRecursion}
 use Rattle.jl_logic.specs.Order.{is_text}
-use Rattle.jl_logic.specs.Lists.{AreDistinct}
-use Rattle.jl_reading.specs.Reading.{Stands, two, four}
+use Rattle.jl_logic.specs.Lists.{AreDistinct, Match}
+use Rattle.jl_reading.specs.Reading.{Stands, two, four, counted}
 use Rattle.jl_prim.specs.declared.declaration.Requires.{Requires}
 use Rattle.jl_prim.specs.declared.declaration.Grant.{Grant}
 use Rattle.jl_prim.specs.declared.declaration.Provides.{Provides}
 use Rattle.jl_prim.specs.declared.declaration.Declaration.{Declaration}
 use Rattle.jl_pool.specs.declared.entry.Entry.{Entry}
-use Rattle.jl_pool.specs.Pool.{text_of}
+use Rattle.jl_pool.specs.Pool.{text_of, class_named}
 use Rattle.jl_pool.specs.Spelling.{StandsPool}
-use Rattle.jl_modinfo.specs.Meaning.{module_named, package_named, class_named, class_text, version_named, is_set, targets_of}
+use Rattle.jl_modinfo.specs.Meaning.{module_named, package_named, class_text, version_named, is_set, targets_of}
 use Rattle.jl_modinfo.specs.Rules.{keeps_base_rule, missing_package}
 
 -- ---- the parts of a file, by numbers
@@ -51,10 +51,6 @@ pub record Attribute : Type 0 where
 
 -- ---- their bytes
 
--- a count, and so many entries
-abbrev pub counted : {A : Type 0} → (A → List ℕ) → List A → List ℕ
-counted row_bytes rows = two (length rows) ++ flat_map row_bytes rows
-
 abbrev pub requires_bytes : RequiresRow → List ℕ
 requires_bytes r = two r.index ++ (two r.flags ++ two r.version)
 
@@ -79,13 +75,6 @@ back_bytes this attributes =
     two 0x8000 ++ (two this ++ (two 0 ++ (two 0 ++ (two 0 ++ (two 0 ++ counted attribute_bytes attributes)))))
 
 -- ---- what they declare
-
--- one of these for each of those, in order
-abbrev pub Match : {A B : Type 0} → (A → B → Type 0) → List A → List B → Type 0
-Match R [] [] = ⊤
-Match R (a ∷ xs) (b ∷ ys) = R a b × Match R xs ys
-Match R [] (b ∷ ys) = ⊥
-Match R (a ∷ xs) [] = ⊥
 
 -- an index of two bytes has this name
 abbrev pub Names : (List Entry → ℕ → Option (List ℕ)) → List Entry → ℕ → List ℕ → Type 0

@@ -3,7 +3,8 @@ use Rattle.std.specs.Prelude.{ℕ, List, Option}
 use Rattle.jl_pool.specs.declared.entry.Entry.{Entry}
 use Rattle.jl_modinfo.specs.declared.kind.Kind.{Kind}
 use Rattle.jl_modinfo.specs.declared.kind.Kind.TheVariants as kinds
-use Rattle.jl_modinfo.specs.Meaning.{module_named, package_named, class_named}
+use Rattle.jl_modinfo.specs.Meaning.{module_named, package_named}
+use Rattle.jl_pool.specs.Pool.{class_named}
 use Rattle.jl_modinfo.specs.Reading.{opened_named}
 
 abbrev pub naming : Kind → List Entry → ℕ → Option (List ℕ)

@@ -1,7 +1,7 @@
 -- The constants that a declaration names, and its parts by their indices, as they are written (JVMS 4.1, 4.7.25 to 4.7.27).
 use Rattle.std.specs.Prelude.{ℕ, ◌+◌, ◌<◌, List, [], ◌∷◌, ◌++◌, length, map, Option, None, Some, Bool, nat_lt, nat_le, codes, if◌then◌else◌}
 use Rattle.std.specs.List.{flat_map, list_any, AllByRecursion}
-use Rattle.jl_reading.specs.Reading.{two, four}
+use Rattle.jl_reading.specs.Reading.{two, four, counted}
 use Rattle.jl_prim.specs.declared.declaration.Requires.{Requires}
 use Rattle.jl_prim.specs.declared.declaration.Grant.{Grant}
 use Rattle.jl_prim.specs.declared.declaration.Provides.{Provides}
@@ -12,7 +12,7 @@ use Rattle.jl_names.specs.Text.{text_bytes}
 use Rattle.jl_names.specs.Utf16.{utf16}
 use Rattle.jl_pool.specs.Builder.{text_in, index_in, pool_of, with_needed}
 use Rattle.jl_pool.specs.Spelling.{entry_bytes}
-use Rattle.jl_modinfo.specs.Info.{RequiresRow, GrantRow, ProvidesRow, Body, Attribute, counted, body_bytes, back_bytes}
+use Rattle.jl_modinfo.specs.Info.{RequiresRow, GrantRow, ProvidesRow, Body, Attribute, body_bytes, back_bytes}
 use Rattle.jl_modinfo.specs.Writing.{Need, Counted, targets}
 
 -- ---- constants

@@ -1,34 +1,25 @@
 -- The parts of a declaration file, and what they mean by the pool (JVMS 4.7.25, 4.7.26, 4.7.27).
-use Rattle.std.specs.Prelude.{ℕ, List, [], ◌∷◌, Option, None, Some, Bool, false, ◌&&◌, ◌==◌, codes, bit_and, if◌then◌else◌}
+use Rattle.std.specs.Prelude.{ℕ, List, [], ◌∷◌, Option, None, Some, Bool, false, ◌==◌, codes, bit_and, if◌then◌else◌}
 use Rattle.std.specs.List.{list_any}
 use Rattle.std.specs.Option.{option_and_then}
 use Rattle.jl_logic.specs.Order.{is_text}
 use Rattle.jl_prim.specs.Names.{names_a_module}
 use Rattle.jl_names.specs.Names.{names_a_class}
-use Rattle.jl_names.specs.Text.{plain, has_no_lone_surrogate}
 use Rattle.jl_pool.specs.declared.entry.Entry.{Entry}
-use Rattle.jl_pool.specs.Pool.{utf8_of, text_of, class_of, module_of, package_of}
+use Rattle.jl_pool.specs.Pool.{text_that, text_of, class_of, module_of, package_of}
 
 abbrev pub java_base : List ℕ
 java_base = codes "java.base"
 
 -- ---- by the pool
 
--- units whose text has a property, as that text
-abbrev pub units_that : (List ℕ → Bool) → List ℕ → Option (List ℕ)
-units_that is_name units = if has_no_lone_surrogate units && is_name (plain units) then Some (plain units) else None
-
 -- the name that a Module index has
 abbrev pub module_named : List Entry → ℕ → Option (List ℕ)
-module_named pool i = option_and_then (units_that names_a_module) (option_and_then (utf8_of pool) (module_of pool i))
+module_named pool i = option_and_then (text_that names_a_module pool) (module_of pool i)
 
 -- the name that a Package index has, which is of the form of a class name
 abbrev pub package_named : List Entry → ℕ → Option (List ℕ)
-package_named pool i = option_and_then (units_that names_a_class) (option_and_then (utf8_of pool) (package_of pool i))
-
--- the name that a Class index has
-abbrev pub class_named : List Entry → ℕ → Option (List ℕ)
-class_named pool i = option_and_then (units_that names_a_class) (option_and_then (utf8_of pool) (class_of pool i))
+package_named pool i = option_and_then (text_that names_a_class pool) (package_of pool i)
 
 -- The version that an index has: none for 0, else the text.
 abbrev pub version_named : List Entry → ℕ → Option (Option (List ℕ))

@@ -1,19 +1,19 @@
 -- Reading a declaration file from left to right, with the first fault that is met (JVMS 4.1, 4.7.25 to 4.7.27).
-use Rattle.std.specs.Prelude.{ℕ, zero, suc, ◌+◌, List, [], length, take, map, Option, None, Some, Result, Ok, Err, Bool, not, ◌||◌, nat_lt, ◌==◌, codes, if◌then◌else◌}
+use Rattle.std.specs.Prelude.{ℕ, ◌+◌, List, [], length, take, map, Option, None, Some, Result, Ok, Err, Bool, not, ◌||◌, nat_lt, ◌==◌, codes, if◌then◌else◌}
 use Rattle.jl_logic.specs.Order.{is_text}
-use Rattle.jl_reading.specs.Reading.{◌>>=◌, number_at, each_at}
+use Rattle.jl_reading.specs.Reading.{◌>>=◌, number_at, each_at, steps_at}
 use Rattle.jl_prim.specs.declared.declaration.Requires.{Requires}
 use Rattle.jl_prim.specs.declared.declaration.Grant.{Grant}
 use Rattle.jl_prim.specs.declared.declaration.Provides.{Provides}
 use Rattle.jl_prim.specs.declared.declaration.Declaration.{Declaration}
 use Rattle.jl_pool.specs.declared.entry.Entry.{Entry}
-use Rattle.jl_pool.specs.Pool.{text_of}
+use Rattle.jl_pool.specs.Pool.{text_of, class_named}
 use Rattle.jl_pool.specs.Reading.{pool_at}
 use Rattle.jl_modinfo.specs.declared.module.Module.{Module}
 use Rattle.jl_modinfo.specs.declared.attribute.Attributes.{Attributes}
 use Rattle.jl_modinfo.specs.declared.fault.InfoFault.{InfoFault}
 use Rattle.jl_modinfo.specs.declared.fault.InfoFault.TheVariants as faults
-use Rattle.jl_modinfo.specs.Meaning.{module_named, package_named, class_named, class_text, version_named, is_set, is_module_info, is_among, targets_of}
+use Rattle.jl_modinfo.specs.Meaning.{module_named, package_named, class_text, version_named, is_set, is_module_info, is_among, targets_of}
 use Rattle.jl_modinfo.specs.Rules.{keeps_base_rule, missing_package}
 use Rattle.jl_modinfo.specs.Faults.{short, pool_or, named_or}
 
@@ -221,17 +221,11 @@ attribute_at pool bytes done at = do
       else if is_text name (codes "ModuleMainClass") then once name done.main (with_main pool bytes done i.1)
       else passed_over bytes done i.1
 
-unfoldable pub attributes_from : ℕ → List Entry → List ℕ → Attributes → ℕ → Result (Attributes × ℕ) InfoFault
-attributes_from zero pool bytes done at = Ok (done, at)
-attributes_from (suc n) pool bytes done at = do
-  next ← attribute_at pool bytes done at
-  attributes_from n pool bytes next.0 next.1
-
 -- the attributes whose count stands at a place
 unfoldable pub attributes_at : List Entry → List ℕ → ℕ → Result (Attributes × ℕ) InfoFault
 attributes_at pool bytes at = do
   count ← number_at short 2 bytes at
-  attributes_from count.0 pool bytes unread count.1
+  steps_at (attribute_at pool bytes) count.0 unread count.1
 
 -- ---- the whole file
 

@@ -2,8 +2,9 @@
 
 ghost use Rattle.std.specs.Prelude.{◌≡◌, ◌≤◌, length, IfOk};
 ghost use Rattle.jl_logic.specs.Answers.{Gives};
+ghost use Rattle.jl_reading.specs.Reading.{steps_at};
 ghost use Rattle.jl_modinfo.specs.Faults.{told};
-ghost use Rattle.jl_modinfo.specs.Reading.{content_end, attribute_at, attributes_from, attributes_at, once, unread};
+ghost use Rattle.jl_modinfo.specs.Reading.{content_end, attribute_at, attributes_at, once, unread};
 ghost use Rattle.jl_modinfo.specs.Reading as reading;
 
 use crate::fault::{InfoFault, repeated};
@@ -46,7 +47,7 @@ fn each_attribute(
     at: usize,
 ) -> Result<(Attributes, usize), InfoFault>
     requires { at ≤ length bytes.now }
-    ensures { Gives told (λ x. x) result (attributes_from count pool.now bytes.now unread at) }
+    ensures { Gives told (λ x. x) result (steps_at (attribute_at pool.now bytes.now) count unread at) }
 {
     let mut done = Attributes {
         module: None,
@@ -92,8 +93,8 @@ fn attribute(
     passed_over(bytes, done, next)
 }
 
-/// A Module attribute, of which there is one.
-#[tactic(auto, using(crate::proofs::OnceLaws::once_some, crate::proofs::OnceLaws::once_none))]
+/// The Module attribute, of which there is one at most.
+#[tactic(auto, using(crate::proofs::OnceLaws::once_some, crate::proofs::OnceLaws::once_none), unfolding(crate::specs::Reading::with_module, crate::specs::Reading::content_at))]
 fn first_module(
     alloc: Global,
     pool: &Pool,
@@ -109,10 +110,14 @@ fn first_module(
     if done.module.is_some() {
         return repeated(alloc, "attributes", name);
     }
-    with_module(alloc, pool, bytes, done, at)
+    let (start, end) = content(bytes, at)?;
+    let mut read = done;
+    read.module = Some(module_of(alloc, pool, &bytes[..end], start)?);
+    Ok((read, end))
 }
 
-#[tactic(auto, using(crate::proofs::OnceLaws::once_some, crate::proofs::OnceLaws::once_none))]
+/// The ModulePackages attribute (JVMS 4.7.26), of which there is one at most.
+#[tactic(auto, using(crate::proofs::OnceLaws::once_some, crate::proofs::OnceLaws::once_none), unfolding(crate::specs::Reading::with_packages, crate::specs::Reading::content_at))]
 fn first_packages(
     alloc: Global,
     pool: &Pool,
@@ -128,10 +133,14 @@ fn first_packages(
     if done.packages.is_some() {
         return repeated(alloc, "attributes", name);
     }
-    with_packages(alloc, pool, bytes, done, at)
+    let (start, end) = content(bytes, at)?;
+    let mut read = done;
+    read.packages = Some(packages_of(alloc, pool, &bytes[..end], start)?);
+    Ok((read, end))
 }
 
-#[tactic(auto, using(crate::proofs::OnceLaws::once_some, crate::proofs::OnceLaws::once_none))]
+/// The ModuleMainClass attribute (JVMS 4.7.27), of which there is one at most.
+#[tactic(auto, using(crate::proofs::OnceLaws::once_some, crate::proofs::OnceLaws::once_none), unfolding(crate::specs::Reading::with_main, crate::specs::Reading::content_at))]
 fn first_main(
     alloc: Global,
     pool: &Pool,
@@ -147,7 +156,10 @@ fn first_main(
     if done.main.is_some() {
         return repeated(alloc, "attributes", name);
     }
-    with_main(pool, bytes, done, at)
+    let (start, end) = content(bytes, at)?;
+    let mut read = done;
+    read.main = Some(main_of(pool, &bytes[..end], start)?);
+    Ok((read, end))
 }
 
 /// The attributes are as before where one of another name is passed over.
@@ -159,81 +171,6 @@ fn passed_over(bytes: &[u8], done: Attributes, at: usize) -> Result<(Attributes,
 {
     let (_start, end) = content(bytes, at)?;
     Ok((done, end))
-}
-
-/// The content of a Module attribute.
-#[tactic(auto, unfolding(crate::specs::Reading::with_module, crate::specs::Reading::content_at))]
-fn with_module(
-    alloc: Global,
-    pool: &Pool,
-    bytes: &[u8],
-    done: Attributes,
-    at: usize,
-) -> Result<(Attributes, usize), InfoFault>
-    requires { at ≤ length bytes.now }
-    ensures exact { Gives told (λ x. x) result (reading.with_module pool.now bytes.now done at) }
-    ensures within { IfOk result (λ x. x.1 ≤ length bytes.now) }
-{
-    let (start, end) = content(bytes, at)?;
-    let module = module_of(alloc, pool, &bytes[..end], start)?;
-    let Attributes { packages, main, .. } = done;
-    let read = Attributes {
-        module: Some(module),
-        packages,
-        main,
-    };
-    Ok((read, end))
-}
-
-/// The content of a ModulePackages attribute (JVMS 4.7.26).
-#[tactic(auto, unfolding(crate::specs::Reading::with_packages, crate::specs::Reading::content_at))]
-fn with_packages(
-    alloc: Global,
-    pool: &Pool,
-    bytes: &[u8],
-    done: Attributes,
-    at: usize,
-) -> Result<(Attributes, usize), InfoFault>
-    requires { at ≤ length bytes.now }
-    ensures exact { Gives told (λ x. x) result (reading.with_packages pool.now bytes.now done at) }
-    ensures within { IfOk result (λ x. x.1 ≤ length bytes.now) }
-{
-    let (start, end) = content(bytes, at)?;
-    let packages = packages_of(alloc, pool, &bytes[..end], start)?;
-    let Attributes { module, main, .. } = done;
-    let read = Attributes {
-        module,
-        packages: Some(packages),
-        main,
-    };
-    Ok((read, end))
-}
-
-/// The content of a ModuleMainClass attribute (JVMS 4.7.27).
-#[tactic(auto, unfolding(crate::specs::Reading::with_main, crate::specs::Reading::content_at))]
-fn with_main(
-    pool: &Pool,
-    bytes: &[u8],
-    done: Attributes,
-    at: usize,
-) -> Result<(Attributes, usize), InfoFault>
-    requires { at ≤ length bytes.now }
-    ensures exact { Gives told (λ x. x) result (reading.with_main pool.now bytes.now done at) }
-    ensures within { IfOk result (λ x. x.1 ≤ length bytes.now) }
-{
-    let (start, end) = content(bytes, at)?;
-    let main = main_of(pool, &bytes[..end], start)?;
-    let Attributes {
-        module,
-        packages,
-        ..
-    } = done;
-    let read = Attributes {
-        module,
-        packages,
-        main: Some(main),
-    };
-    Ok((read, end))
 }
 
 /// The packages that the bytes from a place on list, all of them.

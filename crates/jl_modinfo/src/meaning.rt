@@ -3,12 +3,12 @@
 ghost use Rattle.std.specs.Prelude.{◌≡◌};
 ghost use Rattle.std.specs.Option.{option_copied};
 ghost use Rattle.jl_modinfo.specs.Kinds.{naming};
-ghost use Rattle.jl_modinfo.specs.Meaning.{module_named, package_named, class_named, is_set};
+ghost use Rattle.jl_modinfo.specs.Meaning.{module_named, package_named, is_set};
 ghost use Rattle.jl_modinfo.specs.Meaning as meaning;
 
 use crate::kind::Kind;
 use bitflags::Flags;
-use jl_names::{is_class_name, is_paired};
+use jl_names::is_class_name;
 use jl_pool::Pool;
 use jl_prim::{AccessFlags, Name, is_module_name};
 
@@ -19,7 +19,7 @@ pub fn name_of(pool: &Pool, kind: Kind, i: u16) -> Option<&Name>
     match kind {
         Kind::Module => module_name(pool, i),
         Kind::Package => package_name(pool, i),
-        Kind::Class => class_name(pool, i),
+        Kind::Class => pool.class_name(i),
         Kind::Opened(true) => None,
         Kind::Opened(false) => package_name(pool, i),
     }
@@ -29,10 +29,8 @@ pub fn name_of(pool: &Pool, kind: Kind, i: u16) -> Option<&Name>
 fn module_name(pool: &Pool, i: u16) -> Option<&Name>
     ensures { option_copied result ≡ module_named pool.now i }
 {
-    let name = pool.module(i)?;
-    let units = pool.utf8(name)?;
-    let text = pool.text(name)?;
-    if is_paired(units.as_slice()) && is_module_name(text.as_bytes()) {
+    let text = pool.paired_text(pool.module(i)?)?;
+    if is_module_name(text.as_bytes()) {
         Some(text)
     } else {
         None
@@ -43,24 +41,8 @@ fn module_name(pool: &Pool, i: u16) -> Option<&Name>
 fn package_name(pool: &Pool, i: u16) -> Option<&Name>
     ensures { option_copied result ≡ package_named pool.now i }
 {
-    let name = pool.package(i)?;
-    let units = pool.utf8(name)?;
-    let text = pool.text(name)?;
-    if is_paired(units.as_slice()) && is_class_name(text.as_bytes()) {
-        Some(text)
-    } else {
-        None
-    }
-}
-
-/// The name that a Class index has.
-fn class_name(pool: &Pool, i: u16) -> Option<&Name>
-    ensures { option_copied result ≡ class_named pool.now i }
-{
-    let name = pool.class(i)?;
-    let units = pool.utf8(name)?;
-    let text = pool.text(name)?;
-    if is_paired(units.as_slice()) && is_class_name(text.as_bytes()) {
+    let text = pool.paired_text(pool.package(i)?)?;
+    if is_class_name(text.as_bytes()) {
         Some(text)
     } else {
         None

@@ -1,9 +1,9 @@
-use Rattle.std.proofs.Common.{◌≡◌, ◌≤◌, ℕ, Bool, List, length, subst, ap, ◌∙◌, arith}
-use Rattle.std.specs.Prelude.{IsTrue, IfOk, ◌↔◌}
+use Rattle.std.proofs.Common.{◌≡◌, ◌≤◌, ℕ, subst, ◌∙◌, arith}
+use Rattle.std.specs.Prelude.{IsTrue, ◌↔◌}
 use Rattle.std.specs.List.{list_all}
 use Rattle.std.proofs.lemmas.Result.{IfOk-weaker}
 use Rattle.jl_modinfo.specs.Writing.{AreShort, members}
-use Rattle.jl_modinfo.specs.Layout.{capped, is_short_constant, named_constants}
+use Rattle.jl_modinfo.specs.Layout.{capped, is_short_constant}
 use Rattle.jl_modinfo.proofs.MemberLaws.{writable_is}
 use Rattle.jl_modinfo.proofs.writable.is_writable.Goals as goal
 

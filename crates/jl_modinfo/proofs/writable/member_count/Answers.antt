@@ -2,7 +2,6 @@ use Rattle.std.proofs.Common.{◌+◌, length, sym, ap, ap₂, ◌∙◌, ℕ, L
 use Rattle.std.specs.List.{sum_by}
 use Rattle.jl_prim.specs.declared.declaration.Grant.{Grant}
 use Rattle.jl_prim.specs.declared.declaration.Provides.{Provides}
-use Rattle.jl_modinfo.specs.Writing.{members}
 use Rattle.jl_modinfo.specs.Layout.{capped, target_length, class_length}
 use Rattle.jl_modinfo.proofs.MemberLaws.{plus_capped, both_capped, members_are}
 use Rattle.jl_modinfo.proofs.writable.member_count.Goals as goal
