@@ -1,12 +1,12 @@
 -- A resolution put together of the searches for refusals of one kind each, and of the modules and reads.
-use Rattle.std.proofs.Common.{◌≡◌, ◌≢◌, ◌⊎◌, ◌<◌, ◌≤◌, ℕ, zero, suc, ◌-◌, List, [], ◌∷◌, length, map, inl, inr, ⊎_elim, refl, sym, ◌∙◌, ap, subst, Contains, All, Option, Some, None, Bool, true, false, Less, Greater, nat_cmp, Err, slice_get, filter_map, arith}
-use Rattle.std.specs.List.{AllByRecursion, cons_option}
+use Rattle.std.proofs.Common.{◌≡◌, ◌≢◌, ◌⊎◌, ◌<◌, ◌≤◌, ℕ, zero, suc, ◌-◌, List, [], ◌∷◌, length, map, inl, inr, ⊎_elim, refl, sym, ap, subst, Contains, All, Some, Bool, true, false, Less, Greater, nat_cmp, Err, slice_get, arith}
+use Rattle.std.specs.List.{AllByRecursion}
 use Rattle.std.specs.Ordering.{ordering_then}
 use Rattle.std.proofs.lemmas.Cmp.{ranked, by_ranked}
 use Rattle.std.proofs.lemmas.List.Elements.{All-from_recursion, All-contains}
 use Rattle.jl_prim.specs.declared.declaration.Observed.{Observed}
-use Rattle.jl_logic.specs.Order.{RisesBy, IsLeast}
-use Rattle.jl_logic.proofs.Rising.{contains_head, contains_tail, contains_cases, contains_nothing, each_from_members}
+use Rattle.jl_logic.specs.Order.{IsLeast, RisesBy}
+use Rattle.jl_logic.proofs.Rising.{contains_head, each_from_members}
 use Rattle.jl_config.specs.declared.fault.ResolveFault.{ResolveFault}
 use Rattle.jl_config.specs.declared.fault.ResolveFault.TheVariants.{NoParents, NotFound, TooMany, Cycle, SameName, SamePackage, OwnPackage, ServicePackage, NoMemory}
 use Rattle.jl_config.specs.declared.site.Site.{Site}
@@ -21,6 +21,7 @@ use Rattle.jl_config.proofs.FaultOrder.{fault_total, sites_total}
 use Rattle.jl_config.proofs.Always.{IsTooMany, module_here}
 use Rattle.jl_config.proofs.RisingLists.{not_below_itself, no_longer}
 use Rattle.jl_config.proofs.Unique.{told_by_least}
+use Rattle.jl_config.proofs.Lists.{into_map, from_map, into_filter_map, from_filter_map, filter_map_long, item_at}
 
 -- ---- kinds of refusals, in their order
 
@@ -198,48 +199,14 @@ justified_by_members q g modules o c = member_bound (scene_of q) (new_site q o) 
 
 -- ---- members by their places, in order
 
-module _ {X Y : Type 0} (h : X → Option Y) where
-  kept : (xs : List X) (x : X) (y : Y) → Contains xs x → h x ≡ Some y → Contains (filter_map h xs) y
-  kept [] x y c e = contains_nothing x c
-  kept (w ∷ xs) x y c e = ⊎_elim (λ f. here (h w) (ap h f ∙ e)) (λ k. later (h w) (kept xs x y k e)) (contains_cases w x xs c)
-    where
-      here : (o : Option Y) → o ≡ Some y → Contains (cons_option o (filter_map h xs)) y
-      here None f = absurd cc
-      here (Some z) f = let g : z ≡ y = cc in subst (λ v. Contains (z ∷ filter_map h xs) v) g (contains_head z (filter_map h xs))
-
-      later : (o : Option Y) → Contains (filter_map h xs) y → Contains (cons_option o (filter_map h xs)) y
-      later None k = k
-      later (Some z) k = contains_tail z y (filter_map h xs) k
-
-  kept_from : (xs : List X) (y : Y) → Contains (filter_map h xs) y → (x : X) × Contains xs x × (h x ≡ Some y)
-  kept_from [] y c = contains_nothing y c
-  kept_from (w ∷ xs) y c = by (λ k. let r = kept_from xs y k in (r.0, contains_tail w r.0 xs r.1, r.2)) (h w) refl c
-    where
-      by : (Contains (filter_map h xs) y → (x : X) × Contains (w ∷ xs) x × (h x ≡ Some y)) → (o : Option Y) → h w ≡ o → Contains (cons_option o (filter_map h xs)) y → (x : X) × Contains (w ∷ xs) x × (h x ≡ Some y)
-      by more None e k = more k
-      by more (Some z) e k = ⊎_elim (λ f. (w, contains_head w xs, e ∙ ap Some f)) more (contains_cases z y (filter_map h xs) k)
-
-  kept_long : (xs : List X) → AllByRecursion (λ x. (y : Y) × (h x ≡ Some y)) xs → length (filter_map h xs) ≡ length xs
-  kept_long [] a = refl
-  kept_long (w ∷ xs) a = by (kept_long xs a.1) (h w) a.0.0 a.0.1
-    where
-      by : length (filter_map h xs) ≡ length xs → (o : Option Y) (y : Y) → o ≡ Some y → length (cons_option o (filter_map h xs)) ≡ length (w ∷ xs)
-      by more None y e = absurd cc
-      by more (Some z) y e = omega arith
-
-item_below : {X : Type 0} (xs : List X) (p : ℕ) → p < length xs → (x : X) × (slice_get xs p ≡ Some x)
-item_below [] p h = absurd (omega arith)
-item_below (x ∷ xs) zero h = (x, refl)
-item_below (x ∷ xs) (suc p) h = item_below xs p (omega arith)
-
 sites_long : (w : Scene) (ps : List ℕ) → All (λ p. p < length w.sites) ps → length (sites_at w ps) ≡ length ps
-sites_long w ps a = kept_long (slice_get w.sites) ps (each_from_members (λ p. (s : Site) × (slice_get w.sites p ≡ Some s)) ps (λ p c. item_below w.sites p (All-contains (λ k. k < length w.sites) ps p a c)))
+sites_long w ps a = filter_map_long (slice_get w.sites) ps (each_from_members (λ p. (s : Site) × (slice_get w.sites p ≡ Some s)) ps (λ p c. item_at w.sites p (All-contains (λ k. k < length w.sites) ps p a c)))
 
 members_at : (w : Scene) (ps : List ℕ) → AreMembers w ps → (s : Site) → Contains (sites_at w ps) s → IsMember w s
-members_at w ps m s c = let k = kept_from (slice_get w.sites) ps s c in (m.only k.0 s k.1 k.2).0
+members_at w ps m s c = let k = from_filter_map (slice_get w.sites) ps s c in (m.only k.0 s k.1 k.2).0
 
 at_members : (w : Scene) (ps : List ℕ) → AreMembers w ps → (s : Site) → IsMember w s → Contains (sites_at w ps) s
-at_members w ps m s k = let r = m.all s k in kept (slice_get w.sites) ps r.0 s r.1 r.2
+at_members w ps m s k = let r = m.all s k in into_filter_map (slice_get w.sites) ps r.0 s r.1 r.2
 
 -- the set is too large exactly where there are more places than that
 pub large_by_places : (w : Scene) (ps : List ℕ) → AreMembers w ps → most < length ps → IsLarge w
@@ -272,20 +239,12 @@ rises_mapped : (ss : List Site) → RisesBy site_cmp ss → RisesBy module_cmp (
 rises_mapped [] up = tt
 rises_mapped (s ∷ ss) up = (above_mapped s ss up.0, rises_mapped ss up.1)
 
-mapped : (ss : List Site) (s : Site) → Contains ss s → Contains (map observed_of ss) s.observed
-mapped [] s c = contains_nothing s c
-mapped (t ∷ ss) s c = ⊎_elim (λ e. subst (λ v. Contains (t.observed ∷ map observed_of ss) (observed_of v)) e (contains_head t.observed (map observed_of ss))) (λ k. contains_tail t.observed s.observed (map observed_of ss) (mapped ss s k)) (contains_cases t s ss c)
-
-mapped_from : (ss : List Site) (o : Observed) → Contains (map observed_of ss) o → (s : Site) × Contains ss s × (s.observed ≡ o)
-mapped_from [] o c = contains_nothing o c
-mapped_from (t ∷ ss) o c = ⊎_elim (λ e. (t, contains_head t ss, e)) (λ k. let r = mapped_from ss o k in (r.0, contains_tail t r.0 ss r.1, r.2)) (contains_cases t.observed o (map observed_of ss) c)
-
 pub modules_by_places : (q : Asked) (ps : List ℕ) (os : List Observed) → AreMembers (scene_of q) ps → os ≡ map observed_of (sites_at (scene_of q) ps) → AreModules q os
 modules_by_places q ps os m e = subst (AreModules q) (sym e) (record {
   rise = rises_mapped (sites_at (scene_of q) ps) m.rise;
   only = λ o c.
-      let r = mapped_from (sites_at (scene_of q) ps) o c in
+      let r = from_map observed_of (sites_at (scene_of q) ps) o c in
       let here : IsMember (scene_of q) r.0 = members_at (scene_of q) ps m r.0 r.1 in
       subst (IsMember (scene_of q)) (module_here q r.0 o here r.2) here;
-  all = λ s k. mapped (sites_at (scene_of q) ps) s (at_members (scene_of q) ps m s k);
+  all = λ s k. into_map observed_of (sites_at (scene_of q) ps) s (at_members (scene_of q) ps m s k);
 })

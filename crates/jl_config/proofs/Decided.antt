@@ -1,6 +1,6 @@
 -- What the searches of a resolution found decides its answer.
-use Rattle.std.proofs.Common.{◌≡◌, ◌<◌, ◌≤◌, ◌⊎◌, ◌+◌, ℕ, zero, suc, List, [], ◌∷◌, ◌++◌, length, map, take, get_or, slice_get, inl, inr, ⊎_elim, refl, sym, ◌∙◌, ap, subst, Option, Some, None, option_to_list, arith, Err, Ok}
-use Rattle.std.proofs.lemmas.List.{map-append}
+use Rattle.std.proofs.Common.{◌≡◌, ◌<◌, ◌≤◌, ◌⊎◌, ◌+◌, ℕ, suc, List, [], ◌++◌, length, map, take, get_or, slice_get, inl, inr, ⊎_elim, refl, sym, ◌∙◌, ap, subst, Option, Some, None, option_to_list, arith, Err, Ok}
+use Rattle.std.proofs.lemmas.List.{map-append, get_or_default}
 use Rattle.jl_prim.specs.declared.declaration.Observed.{Observed}
 use Rattle.jl_config.specs.declared.fault.ResolveFault.{ResolveFault}
 use Rattle.jl_config.specs.declared.fault.ResolveFault.TheVariants.{TooMany}
@@ -14,19 +14,14 @@ use Rattle.jl_config.specs.Resolves.{Resolves, AreReads, AreJustified, IsGraphOf
 use Rattle.jl_config.specs.Settled.{StartsAt, Settles}
 use Rattle.jl_config.proofs.Always.{IsTooMany}
 use Rattle.jl_config.proofs.Assembled.{IsKind, NoneBefore, NoParentsFault, TooManyFault, none_at_first, none_further, nothing_applies, first_refusal, too_many_first, no_parents_kind, too_many_kind, large_by_places, not_large_by_places, modules_by_places, justified_by_members}
-use Rattle.jl_config.proofs.MemberLists.{filter_map_step}
-
-any_default : (ps : List ℕ) (i a b : ℕ) → i < length ps → get_or ps i a ≡ get_or ps i b
-any_default [] i a b lt = absurd (omega arith)
-any_default (p ∷ ps) zero a b lt = refl
-any_default (p ∷ ps) (suc i) a b lt = any_default ps i a b (omega arith)
+use Rattle.jl_config.proofs.Lists.{filter_map_step}
 
 -- one more module is copied
 pub copied_step : (w : Scene) (ps : List ℕ) (i : ℕ) (old new : List Observed) → i < length ps → old ≡ modules_at w (take i ps) → new ≡ old ++ map (λ (s : Site). s.observed) (option_to_list (slice_get w.sites (get_or ps i 0))) → new ≡ modules_at w (take (i + 1) ps)
 copied_step w ps i old new lt e f =
     let seen : Site → Observed = λ s. s.observed in
     let more : sites_at w (take i ps) ++ option_to_list (slice_get w.sites (get_or ps i 0)) ≡ sites_at w (take (i + 1) ps) =
-    filter_map_step (slice_get w.sites) ps i (get_or ps i 0) (sites_at w (take i ps)) (sites_at w (take i ps) ++ option_to_list (slice_get w.sites (get_or ps i 0))) lt (any_default ps i 0 (get_or ps i 0) lt) refl refl in
+    filter_map_step (slice_get w.sites) ps i (get_or ps i 0) (sites_at w (take i ps)) (sites_at w (take i ps) ++ option_to_list (slice_get w.sites (get_or ps i 0))) lt (get_or_default ps i 0 (get_or ps i 0) lt) refl refl in
     f ∙ ap (λ (l : List Observed). l ++ map seen (option_to_list (slice_get w.sites (get_or ps i 0)))) e
     ∙ sym (map-append seen (sites_at w (take i ps)) (option_to_list (slice_get w.sites (get_or ps i 0)))) ∙ ap (map seen) more
 

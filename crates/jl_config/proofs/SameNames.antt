@@ -1,7 +1,7 @@
 -- Modules of one name stand side by side in a reading.
 use Rattle.std.proofs.Common.{◌≡◌, ◌≢◌, ◌<◌, ◌+◌, ◌-◌, ℕ, zero, suc, List, [], ◌∷◌, length, get_or, slice_get, ⊎_elim, refl, sym, ◌∙◌, ap, subst, Contains, Option, Some, Ordering, Less, Equal, Greater, arith}
-use Rattle.std.specs.Ordering.{ordering_then, ordering_reverse, nat_cmp, is_eq}
-use Rattle.std.specs.Cmp.Lexicographic.{bytes_decides, texts_ties, nat_list_cmp_total}
+use Rattle.std.specs.Ordering.{ordering_then, ordering_reverse, nat_cmp}
+use Rattle.std.specs.Cmp.Lexicographic.{nat_list_cmp_total}
 use Rattle.std.proofs.lemmas.Bool.{cases_lt}
 use Rattle.std.proofs.lemmas.Cmp.{nat_cmp_total, tied_itself}
 use Rattle.std.proofs.lemmas.Option.{slice_get_within, slice_get-get_or}
@@ -21,12 +21,9 @@ use Rattle.jl_config.specs.Places.{place_of_site, IsLeastSome, SameNameFault}
 use Rattle.jl_config.specs.ReadRows.{option_name, name_at, place_cmp, IsReadingOf, AreReadings}
 use Rattle.jl_config.specs.Collected.{Adds, Among, IsReading, read_name, IsShared, same_name_fault}
 use Rattle.jl_config.specs.Refusals.{IsSameName, fault_cmp}
-use Rattle.jl_config.proofs.ReadLists.{contains_at}
-use Rattle.jl_config.proofs.ReadOrders.{site_exists}
+use Rattle.jl_config.proofs.Lists.{contains_at, item_at}
 use Rattle.jl_config.proofs.Collects.{then_equal, least_fault, fault_not_less}
-
-pub names_exact : (a b : List ℕ) → name_cmp a b ≡ Equal → a ≡ b
-names_exact a b e = (bytes_decides a b).0 (texts_ties a b ∙ ap is_eq e)
+use Rattle.jl_config.proofs.Names.{names_exact}
 
 -- ---- lists that rise by a name and something more
 
@@ -83,7 +80,7 @@ pub record ReadAt (w : Scene) (a : Site) (p : ℕ) : Type 0 where
 
 pub place_read : (w : Scene) (r : Reading) (a : Site) (p : ℕ) → IsReadingOf w r a → Contains r.read p → ReadAt w a p
 place_read w r a p h c =
-    let s = site_exists w.sites p (All-contains (λ q. q < length w.sites) r.read p h.reads.read.within c) in
+    let s = item_at w.sites p (All-contains (λ q. q < length w.sites) r.read p h.reads.read.within c) in
     let o = h.reads.read.only p s.0 c s.1 in
     record { site = s.0; at = s.1; read = o.0; first = o.1 }
 

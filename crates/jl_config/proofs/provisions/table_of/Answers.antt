@@ -1,5 +1,5 @@
 use Rattle.jl_config.specs.MemberRows.{listed, for_service}
-use Rattle.jl_config.proofs.MemberLists.{filter_map_step}
+use Rattle.jl_config.proofs.Lists.{filter_map_step}
 use Rattle.jl_config.proofs.provisions.table_of.Goals as goal
 
 pub loop-provision-preserved : goal.loop-provision-preserved
