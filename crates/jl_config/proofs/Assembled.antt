@@ -173,9 +173,6 @@ service_kind q = record { applies = λ f k. (service_applies q f k).0; ranked = 
 alone_least : (A : Type 0) (f : ResolveFault) → A → IsLeast fault_cmp (λ g. A × (f ≡ g)) f
 alone_least A f a = record { has = (a, refl); least = λ g k l. not_below_itself fault_cmp fault_total f (subst (λ h. fault_cmp h f ≡ Less) (sym k.1) l) }
 
-pub no_parents_first : (q : Asked) → q.parents ≡ [] → Resolves q (Err NoParents)
-no_parents_first q e = first_refusal q 0 (NoParentsFault q) (no_parents_kind q) (none_at_first q) NoParents (alone_least (q.parents ≡ []) NoParents e)
-
 pub too_many_first : (q : Asked) → NoneBefore q 2 → IsTooMany q → Resolves q (Err TooMany)
 too_many_first q before k = first_refusal q 2 (TooManyFault q) (too_many_kind q) before TooMany (alone_least (IsTooMany q) TooMany k)
 

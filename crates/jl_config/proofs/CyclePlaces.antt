@@ -10,7 +10,7 @@ use Rattle.jl_logic.specs.Order.{name_cmp, RisesBy, IsLeast}
 use Rattle.jl_logic.proofs.Rising.{contains_head, contains_tail, contains_cases, contains_nothing, each_of_member, apart_from_total}
 use Rattle.jl_config.specs.declared.site.Site.{Site}
 use Rattle.jl_config.specs.declared.fault.ResolveFault.{ResolveFault}
-use Rattle.jl_config.specs.declared.fault.ResolveFault.TheVariants.{NoParents, NotFound, TooMany, Cycle, SameName, SamePackage, OwnPackage, ServicePackage, NoMemory}
+use Rattle.jl_config.specs.declared.fault.ResolveFault.TheVariants.{Cycle}
 use Rattle.jl_config.specs.Located.{Scene, site_name}
 use Rattle.jl_config.specs.Members.{IsMember}
 use Rattle.jl_config.specs.Orders.{site_cmp}
@@ -171,15 +171,8 @@ module _ (w : Scene) (marks : List Bool) (right : AreMarks w marks) where
         (r.0, s, r.1, r.2, h.2, rounds_has r.0 s f h.3.0 h.3.1)
 
     pub no_cycle : IsFirstRound Rows ps None → (f : ResolveFault) → CycleFault w f → ⊥
-    no_cycle e NoParents h = h
-    no_cycle e (NotFound n b) h = h
-    no_cycle e TooMany h = h
     no_cycle e (Cycle least) h = let c = circle_place least h in first_none ps e c.0 c.2 c.5
-    no_cycle e (SameName reader n) h = h
-    no_cycle e (SamePackage reader p one other) h = h
-    no_cycle e (OwnPackage reader p other) h = h
-    no_cycle e (ServicePackage n service) h = h
-    no_cycle e NoMemory h = h
+    no_cycle e f h = absurd h
 
     pub cycle_right : (q : ℕ) (s : Site) → slice_get w.sites q ≡ Some s → IsFirstRound Rows ps (Some q) → IsLeast fault_cmp (CycleFault w) (Cycle (site_name s))
     cycle_right q s at e =
@@ -187,15 +180,8 @@ module _ (w : Scene) (marks : List Bool) (right : AreMarks w marks) where
         record { has = (s, (members.only q s first.0 at).0, refl, rounds_shows q s at first.1); least = below first }
       where
         below : IsFirst ps q → (f : ResolveFault) → CycleFault w f → fault_cmp f (Cycle (site_name s)) ≢ Less
-        below first NoParents h l = absurd h
-        below first (NotFound n b) h l = absurd h
-        below first TooMany h l = absurd h
         below first (Cycle least) h l =
             let c = circle_place least h in
             let less : name_cmp (site_name c.1) (site_name s) ≡ Less = ap (λ (n : List ℕ). name_cmp n (site_name s)) c.4 ∙ sym (cycle_cmp least (site_name s)) ∙ l in
             first.2 c.0 c.1 s c.2 c.3 at c.5 less
-        below first (SameName reader n) h l = absurd h
-        below first (SamePackage reader p one other) h l = absurd h
-        below first (OwnPackage reader p other) h l = absurd h
-        below first (ServicePackage n service) h l = absurd h
-        below first NoMemory h l = absurd h
+        below first f h l = absurd h

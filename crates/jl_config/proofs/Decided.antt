@@ -1,5 +1,5 @@
 -- What the searches of a resolution found decides its answer.
-use Rattle.std.proofs.Common.{◌≡◌, ◌<◌, ◌≤◌, ◌⊎◌, ◌+◌, ℕ, suc, List, [], ◌++◌, length, map, take, get_or, slice_get, inl, inr, ⊎_elim, refl, sym, ◌∙◌, ap, subst, Option, Some, None, option_to_list, arith, Err, Ok}
+use Rattle.std.proofs.Common.{◌≡◌, ◌<◌, ◌≤◌, ◌⊎◌, ◌+◌, ℕ, suc, List, ◌++◌, length, map, take, get_or, slice_get, inl, inr, ⊎_elim, refl, sym, ◌∙◌, ap, subst, Option, Some, None, option_to_list, arith, Err, Ok}
 use Rattle.std.proofs.lemmas.List.{map-append, get_or_default}
 use Rattle.jl_prim.specs.declared.declaration.Observed.{Observed}
 use Rattle.jl_config.specs.declared.fault.ResolveFault.{ResolveFault}
@@ -13,7 +13,7 @@ use Rattle.jl_config.specs.Refusals.{most, fault_cmp}
 use Rattle.jl_config.specs.Resolves.{Resolves, AreReads, AreJustified, IsGraphOf}
 use Rattle.jl_config.specs.Settled.{StartsAt, Settles}
 use Rattle.jl_config.proofs.Always.{IsTooMany}
-use Rattle.jl_config.proofs.Assembled.{IsKind, NoneBefore, NoParentsFault, TooManyFault, none_at_first, none_further, nothing_applies, first_refusal, too_many_first, no_parents_kind, too_many_kind, large_by_places, not_large_by_places, modules_by_places, justified_by_members}
+use Rattle.jl_config.proofs.Assembled.{IsKind, NoneBefore, TooManyFault, none_further, nothing_applies, first_refusal, too_many_first, too_many_kind, large_by_places, not_large_by_places, modules_by_places, justified_by_members}
 use Rattle.jl_config.proofs.Lists.{filter_map_step}
 
 -- one more module is copied
@@ -36,10 +36,6 @@ module _ (q : Asked) (w : Scene) (same : w ≡ scene_of q) (K : Scene → Resolv
   -- the one that was found is the answer
   pub refused : (f : ResolveFault) → found ≡ Some f → Resolves q (Err f)
   refused f e = first_refusal q k (K (scene_of q)) kind before f (subst (λ (o : Option ResolveFault). IsLeastSome fault_cmp (K (scene_of q)) o) e sought_here)
-
--- there is a parent
-pub after_parents : (q : Asked) → (q.parents ≡ [] → ⊥) → NoneBefore q 1
-after_parents q some = none_further q 0 (NoParentsFault q) (no_parents_kind q) (none_at_first q) (λ f h. some h.0)
 
 pub few : (q : Asked) (w : Scene) (ps : List ℕ) → w ≡ scene_of q → AreMembers w ps → length ps ≤ 4096 → length q.known < 4096 → IsTooMany q → ⊥
 few q w ps same members a b = λ h.

@@ -3,7 +3,6 @@ use Rattle.std.proofs.Common.{◌≡◌, ◌≢◌, ◌<◌, ◌≤◌, ◌+◌,
 use Rattle.std.proofs.lemmas.List.{take_more, take_all, map-append}
 use Rattle.std.proofs.lemmas.Bool.{and_parts}
 use Rattle.jl_logic.specs.Order.{is_text, RisesBy}
-use Rattle.jl_logic.proofs.Rising.{contains_nothing}
 use Rattle.jl_config.specs.declared.imports.Exported.{Exported}
 use Rattle.jl_config.specs.declared.imports.Imports.{Imports}
 use Rattle.jl_config.specs.declared.readings.Reading.{Reading}
@@ -30,10 +29,6 @@ pub record AreImportsSoFar (w : Scene) (rs : List Reading) (i : ℕ) (ms : List 
   pub readers : map reader_of_imports ms ≡ map reader_of_reading (take i rs)
   pub each : (m : Imports) → Contains ms m → IsImport w m
 
-pub no_imports : (w : Scene) (rs : List Reading) (ms : List Imports) → ms ≡ [] → AreImportsSoFar w rs 0 ms
-no_imports w rs ms e = subst (AreImportsSoFar w rs 0) (sym e) (record { readers = refl; each = λ m c. contains_nothing m c })
-
--- what the reader of a reading gets
 pub one_import : (w : Scene) (r : Reading) (a : Site) (es : List Exported) → IsReadingOf w r a → RisesBy exported_cmp es
     → ((e : Exported) → Contains es e → Among (IsExportedAt w r.reader) r.read e) → ((e : Exported) → Among (IsExportedAt w r.reader) r.read e → Contains es e)
     → IsImportOf w (record { reader = r.reader; exported = es }) a

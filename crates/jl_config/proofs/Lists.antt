@@ -21,6 +21,10 @@ module _ {X : Type 0} where
   pub place_in : (xs : List X) (x : X) → Contains xs x → (p : ℕ) × (slice_get xs p ≡ Some x)
   place_in xs x c = (c.0, slice_get-get_or xs c.0 x c.1 ∙ ap Some c.2)
 
+  -- what is read at a place of the same list
+  pub item_here : (xs ys : List X) (i : ℕ) (x : X) → ys ≡ xs → i < length xs → x ≡ get_or ys i x → slice_get xs i ≡ Some x
+  item_here xs ys i x e lt is = slice_get-get_or xs i x lt ∙ ap Some (sym (is ∙ ap (λ (l : List X). get_or l i x) e))
+
   -- an item at each place that there is
   pub item_at : (xs : List X) (p : ℕ) → p < length xs → (x : X) × (slice_get xs p ≡ Some x)
   item_at [] p lt = absurd (omega arith)

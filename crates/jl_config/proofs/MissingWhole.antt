@@ -6,7 +6,7 @@ use Rattle.jl_logic.specs.Order.{IsLeast}
 use Rattle.jl_logic.proofs.Rising.{contains_nothing}
 use Rattle.jl_config.specs.declared.site.Site.{Site}
 use Rattle.jl_config.specs.declared.fault.ResolveFault.{ResolveFault}
-use Rattle.jl_config.specs.declared.fault.ResolveFault.TheVariants.{NoParents, NotFound, TooMany, Cycle, SameName, SamePackage, OwnPackage, ServicePackage, NoMemory}
+use Rattle.jl_config.specs.declared.fault.ResolveFault.TheVariants.{NotFound}
 use Rattle.jl_config.specs.Located.{Scene, site_name, located}
 use Rattle.jl_config.specs.Members.{is_followed}
 use Rattle.jl_config.specs.MissingNames.{least_from, lack_cmp, root_missing, entry_missing, missing_of, missing_at, all_missing}
@@ -82,23 +82,9 @@ module _ (w : Scene) (ps : List ℕ) (members : AreMembers w ps) where
       record { has = missing_from (name, by) k.has; least = below k }
     where
       below : IsLeast lack_cmp (Contains (all_missing w ps)) (name, by) → (f : ResolveFault) → MissingFault w f → fault_cmp f (NotFound name by) ≢ Less
-      below k NoParents h l = absurd h
       below k (NotFound n b) h l = k.least (n, b) (missing_into (n, b) h) (sym (not_found_cmp n b name by) ∙ l)
-      below k TooMany h l = absurd h
-      below k (Cycle least) h l = absurd h
-      below k (SameName reader n) h l = absurd h
-      below k (SamePackage reader p one other) h l = absurd h
-      below k (OwnPackage reader p other) h l = absurd h
-      below k (ServicePackage n service) h l = absurd h
-      below k NoMemory h l = absurd h
+      below k f h l = absurd h
 
   pub none_missing : None ≡ least_from None (all_missing w ps) → (f : ResolveFault) → MissingFault w f → ⊥
-  none_missing e NoParents h = h
   none_missing e (NotFound n b) h = least_of_none (all_missing w ps) (n, b) (sym e) (missing_into (n, b) h)
-  none_missing e TooMany h = h
-  none_missing e (Cycle least) h = h
-  none_missing e (SameName reader n) h = h
-  none_missing e (SamePackage reader p one other) h = h
-  none_missing e (OwnPackage reader p other) h = h
-  none_missing e (ServicePackage n service) h = h
-  none_missing e NoMemory h = h
+  none_missing e f h = absurd h

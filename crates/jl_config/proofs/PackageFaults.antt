@@ -1,16 +1,15 @@
 -- Packages that a module would have twice, from what it gets.
 use Rattle.std.proofs.Common.{◌≡◌, ◌≢◌, ◌<◌, ◌+◌, ◌-◌, ℕ, List, [], length, get_or, slice_get, ⊎_elim, refl, sym, ◌∙◌, ap, subst, Contains, Option, Some, Ordering, Less, Equal, Greater, arith}
-use Rattle.std.specs.Cmp.{IsTotalOrder}
 use Rattle.std.specs.Option.{option_map}
 use Rattle.std.specs.Ordering.{ordering_then, ordering_reverse}
 use Rattle.std.specs.Cmp.Lexicographic.{nat_list_cmp_total}
 use Rattle.std.proofs.lemmas.Bool.{cases_lt}
-use Rattle.std.proofs.lemmas.Cmp.{on_total, then_total, tied_itself}
+use Rattle.std.proofs.lemmas.Cmp.{tied_itself}
 use Rattle.std.proofs.lemmas.Option.{slice_get_within, slice_get-get_or, get_or_from_slice_get}
 use Rattle.jl_logic.specs.Order.{name_cmp}
 use Rattle.jl_logic.proofs.Rising.{contains_nothing, apart_from_total}
 use Rattle.jl_config.specs.declared.fault.ResolveFault.{ResolveFault}
-use Rattle.jl_config.specs.declared.fault.ResolveFault.TheVariants.{NoParents, NotFound, TooMany, Cycle, SameName, SamePackage, OwnPackage, ServicePackage, NoMemory}
+use Rattle.jl_config.specs.declared.fault.ResolveFault.TheVariants.{SamePackage, OwnPackage}
 use Rattle.jl_config.specs.declared.imports.Exported.{Exported}
 use Rattle.jl_config.specs.declared.imports.Imports.{Imports}
 use Rattle.jl_config.specs.declared.packages.SharedPackage.{SharedPackage}
@@ -25,9 +24,6 @@ use Rattle.jl_config.specs.Imported.{exported_cmp, IsImportOf, AreImports, IsImp
 use Rattle.jl_config.proofs.Lists.{contains_at, same_item, item_at}
 use Rattle.jl_config.proofs.SameNames.{rising_at, twin_after}
 use Rattle.jl_config.proofs.Collects.{then_equal, least_fault, fault_not_less}
-
-exported_total : IsTotalOrder exported_cmp
-exported_total = then_total (on_total (λ (e : Exported). e.«package») nat_list_cmp_total) (on_total (λ (e : Exported). e.exporter) nat_list_cmp_total)
 
 pub shared_later : (w : Scene) (m : Imports) (i : ℕ) (c : SharedPackage) → IsPackageSharedAt w m i c → 0 < i
 shared_later w m i c h = h.2
@@ -81,9 +77,6 @@ shared_sound w m a c h s =
     )
 
 -- ---- what a step of the search finds
-
-pub item_here : {X : Type 0} (xs ys : List X) (i : ℕ) (x : X) → ys ≡ xs → i < length xs → x ≡ get_or ys i x → slice_get xs i ≡ Some x
-item_here {X} xs ys i x e lt is = slice_get-get_or xs i x lt ∙ ap Some (sym (is ∙ ap (λ (l : List X). get_or l i x) e))
 
 module _ (w : Scene) (m : Imports) (i : ℕ) (d e : Exported) (later : 0 < i) (at : slice_get m.exported (i - 1) ≡ Some d) (be : slice_get m.exported i ≡ Some e) where
   pub not_shared : (d.«package» ≡ e.«package» → ⊥) → (c : SharedPackage) → IsPackageSharedAt w m i c → ⊥
@@ -242,14 +235,7 @@ least_shared w ms found cmp o right adds least order =
   where
     complete : (g : ResolveFault) → SamePackageFault w g → (x : SharedPackage) × Contains found x × (fault_cmp g (same_package_fault x) ≢ Less)
     complete (SamePackage reader p one other) s = let x = shared_complete w ms reader p one other right s in (x.0, adds.all x.0 x.1, x.2)
-    complete NoParents p = absurd p
-    complete (NotFound name by) p = absurd p
-    complete TooMany p = absurd p
-    complete (Cycle least) p = absurd p
-    complete (SameName reader name) p = absurd p
-    complete (OwnPackage reader q other) p = absurd p
-    complete (ServicePackage name service) p = absurd p
-    complete NoMemory p = absurd p
+    complete g p = absurd p
 
 -- ---- packages that the reader has
 
@@ -284,11 +270,4 @@ least_owned w ms found cmp o right adds least order =
     complete (OwnPackage reader p other) s =
         let x : OwnedPackage = record { reader = reader; «package» = p; other = other } in
         (x, adds.all x (owned_complete w ms reader p other right s), fault_not_less (OwnPackage reader p other) (OwnPackage reader p other) refl)
-    complete NoParents p = absurd p
-    complete (NotFound name by) p = absurd p
-    complete TooMany p = absurd p
-    complete (Cycle least) p = absurd p
-    complete (SameName reader name) p = absurd p
-    complete (SamePackage reader q one other) p = absurd p
-    complete (ServicePackage name service) p = absurd p
-    complete NoMemory p = absurd p
+    complete g p = absurd p

@@ -1,7 +1,7 @@
 -- What a closure over the reads' rows marks is what a module reads.
 use Rattle.std.proofs.Common.{◌≡◌, ◌<◌, ℕ, zero, suc, List, [], ◌∷◌, length, get_or, slice_get, map, inl, inr, ⊎_elim, refl, sym, ◌∙◌, ap, subst, Contains, All, Option, Some, None, Bool, true, false, cond, not, ◌||◌, IsTrue, filter_map}
 use Rattle.std.proofs.lemmas.List.{length-map}
-use Rattle.std.proofs.lemmas.Option.{slice_get_within, get_or_from_slice_get, slice_get-get_or}
+use Rattle.std.proofs.lemmas.Option.{slice_get_within, get_or_from_slice_get, slice_get_read}
 use Rattle.std.proofs.lemmas.List.Elements.{All-map, All-push, Contains-append_left, Contains-append_right, Contains-append_cases}
 use Rattle.jl_prim.specs.declared.declaration.Requires.{Requires}
 use Rattle.jl_closure.specs.Reached.{Chain, Follows, IsReached, AreMarksOf}
@@ -253,6 +253,6 @@ pub marks_for : (w : Scene) (marks : List Bool) (a : Site) (place : ℕ) (next :
     → length reached ≡ length next → ((p : ℕ) → slice_get reached p ≡ Some true → IsReached next starts p) → ((p : ℕ) → IsReached next starts p → slice_get reached p ≡ Some true)
     → AreMarksOf (read_rows w marks) (read_starts w marks a place) reached
 marks_for w marks a place next starts reached e s at lt is f long only all =
-    let here : slice_get w.sites place ≡ Some s = slice_get-get_or w.sites place s lt ∙ ap Some (sym is) in
+    let here : slice_get w.sites place ≡ Some s = slice_get_read w.sites (length w.sites) place s refl lt is in
     let same : s ≡ a = same_item s a (slice_get w.sites place) here at in
     subst (λ n. AreMarksOf n (read_starts w marks a place) reached) e (subst (λ b. AreMarksOf next b reached) (f ∙ ap (λ v. read_starts w marks v place) same) (record { one_each = long; only = only; all = all }))

@@ -2,7 +2,7 @@
 use Rattle.std.proofs.Common.{◌≡◌, ◌<◌, ◌≤◌, ◌+◌, ℕ, List, [], ◌∷◌, ◌++◌, length, map, take, get_or, slice_get, ⊎_elim, refl, sym, ◌∙◌, ap, ap₂, subst, Contains, ◌&&◌, eqb, Some, None, Bool, true, false, cond, filter_map, Ordering, Less, arith}
 use Rattle.std.specs.List.{AllByRecursion, Any, cons_option}
 use Rattle.std.specs.List.Sorted.{IsStrictlySortedBy}
-use Rattle.std.proofs.lemmas.Option.{slice_get_within, get_or_from_slice_get, slice_get-get_or}
+use Rattle.std.proofs.lemmas.Option.{slice_get_within, get_or_from_slice_get, slice_get-get_or, slice_get_read}
 use Rattle.std.proofs.lemmas.List.{take_more, take_all, map-append}
 use Rattle.std.proofs.lemmas.Bool.{and_parts, eqb-true}
 use Rattle.std.proofs.lemmas.List.Elements.{All-contains, Contains-append_left, Contains-append_right}
@@ -25,9 +25,6 @@ unfolding IsStrictlySortedBy
 strictly_rises cmp [] h = tt
 strictly_rises cmp (x ∷ xs) h = (h.0, strictly_rises cmp xs h.1)
 
-pub site_here : (w : Scene) (p : ℕ) (s : Site) → p < length w.sites → s ≡ get_or w.sites p s → slice_get w.sites p ≡ Some s
-site_here w p s lt is = slice_get-get_or w.sites p s lt ∙ ap Some (sym is)
-
 -- an item of a set that has one that is the same
 pub from_any : {X : Type 0} {same : X → X → Bool} → ((x y : X) → same x y ≡ true → x ≡ y) → (xs ys : List X) (x : X) → Contains xs x → ((x : X) → Contains xs x → Any (λ y. same x y ≡ true) ys) → Contains ys x
 from_any {X} exact xs ys x c all = let a = all x c in (a.0, a.2, let e : x ≡ a.1 = exact x a.1 a.4 in subst (λ (z : X). get_or ys a.0 z ≡ z) (sym e) a.3)
@@ -48,7 +45,7 @@ placed_more w sites i s name old new whole_is lt0 is0 e f h =
     let lt : i < length w.sites = subst (λ (l : List Site). i < length l) whole_is lt0 in
     let is : s ≡ get_or w.sites i s = is0 ∙ ap (λ (l : List Site). get_or l i s) whole_is in
     let x : Placed = record { name = name; place = i } in
-    let at : slice_get w.sites i ≡ Some s = site_here w i s lt is in
+    let at : slice_get w.sites i ≡ Some s = slice_get_read w.sites (length w.sites) i s refl lt is in
     let same : x ≡ placed w i = ap (λ (n : List ℕ). record { name = n; place = i }) (e ∙ sym (ap option_name at)) in
     subst (ArePlaced w (i + 1)) (sym f) (record {
       only = λ y c. last_or_before old x y ((y.place < length w.sites) × (y ≡ placed w y.place)) c (h.only y) (λ g.
@@ -114,9 +111,6 @@ reader_of r = r.reader
 pub record AreRead (w : Scene) (places : List ℕ) (i : ℕ) (rs : List Reading) : Type 0 where
   pub readers : map reader_of rs ≡ take i places
   pub each : (r : Reading) → Contains rs r → (a : Site) × IsReadingOf w r a
-
-pub none_read : (w : Scene) (places : List ℕ) (rs : List Reading) → rs ≡ [] → AreRead w places 0 rs
-none_read w places rs e = subst (AreRead w places 0) (sym e) (record { readers = refl; each = λ r c. contains_nothing r c })
 
 -- what the module at a place reads, of a closure's marks
 pub one_read : (w : Scene) (marks : List Bool) (places : List ℕ) (p : ℕ) (order : List Placed) (reached : List Bool) (r : Reading) → AreMarks w marks → AreMembers w places → Contains places p → AreByName w order

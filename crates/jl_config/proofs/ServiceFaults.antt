@@ -10,7 +10,7 @@ use Rattle.jl_logic.proofs.Rising.{contains_nothing}
 use Rattle.jl_prim.specs.declared.numbers.ConfigId.{ConfigId}
 use Rattle.jl_names.specs.Names.{package_of}
 use Rattle.jl_config.specs.declared.fault.ResolveFault.{ResolveFault}
-use Rattle.jl_config.specs.declared.fault.ResolveFault.TheVariants.{NoParents, NotFound, TooMany, Cycle, SameName, SamePackage, OwnPackage, ServicePackage, NoMemory}
+use Rattle.jl_config.specs.declared.fault.ResolveFault.TheVariants.{SameName, ServicePackage}
 use Rattle.jl_config.specs.declared.imports.Exported.{Exported}
 use Rattle.jl_config.specs.declared.imports.Imports.{Imports}
 use Rattle.jl_config.specs.declared.services.UnseenService.{UnseenService}
@@ -20,7 +20,7 @@ use Rattle.jl_config.specs.Members.{Reads, Uses, IsProvidedBy}
 use Rattle.jl_config.specs.Places.{IsLeastSome, SameNameFault, ServiceFault}
 use Rattle.jl_config.specs.Refusals.{Exports, Sees, IsServicePackage, fault_cmp}
 use Rattle.jl_config.specs.Collected.{Adds, Among, AreSorted}
-use Rattle.jl_config.specs.Imported.{exported_cmp, IsImportOf, IsImport, AreImports, IsImported, IsOwnExport, AreOwn, IsSeen, IsUnseen, IsUnseenProvided, IsUnseenIn, service_fault}
+use Rattle.jl_config.specs.Imported.{exported_cmp, IsImportOf, AreImports, IsImported, IsOwnExport, AreOwn, IsSeen, IsUnseen, IsUnseenProvided, IsUnseenIn, service_fault}
 use Rattle.jl_config.proofs.Names.{text_is, text_differs}
 use Rattle.jl_config.proofs.NameSearch.{key_searched}
 use Rattle.jl_config.proofs.Lists.{same_item}
@@ -49,9 +49,6 @@ module _ (s : Site) (own : List (List ℕ)) (es : List Exported) (right : AreOwn
   in_seen p h = ⊎_elim (λ k. inl (right.all p (inl k))) (λ g. ⊎_elim (λ x. inl (right.all p (inr x))) inr g) h
 
 -- ---- what a reader does not see
-
-pub import_rises : (w : Scene) (m : Imports) → IsImport w m → RisesBy exported_cmp m.exported
-import_rises w m h = h.1.rise
 
 module _ (w : Scene) (m : Imports) (s : Site) (at : slice_get w.sites m.reader ≡ Some s) where
   pub used_in : (c : UnseenService) → Among (IsUnseen s m.exported) s.observed.declaration.uses c → IsUnseenIn w m c
@@ -124,11 +121,4 @@ least_unseen w apart ms found cmp o right adds least order =
         let x : UnseenService = record { «module» = name; service = service } in
         let m = right.all s.0 s.1 in
         (x, adds.all x (m.0, m.1, unseen_has w apart m.0 s.0 m.2 name service s.2 s.3 s.4), fault_not_less (ServicePackage name service) (ServicePackage name service) refl)
-    complete NoParents p = absurd p
-    complete (NotFound name by) p = absurd p
-    complete TooMany p = absurd p
-    complete (Cycle least) p = absurd p
-    complete (SameName reader name) p = absurd p
-    complete (SamePackage reader q one other) p = absurd p
-    complete (OwnPackage reader q other) p = absurd p
-    complete NoMemory p = absurd p
+    complete g p = absurd p

@@ -3,9 +3,10 @@ use Rattle.std.proofs.lemmas.Bool.{not-true, not-false}
 use Rattle.jl_config.specs.ReadRows.{name_at}
 use Rattle.jl_config.specs.declared.packages.SharedPackage.{SharedPackage}
 use Rattle.jl_config.specs.Imported.{IsPackageSharedAt}
+use Rattle.jl_config.proofs.Lists.{item_here}
 use Rattle.jl_config.proofs.Collects.{adds_none, adds_one}
 use Rattle.jl_config.proofs.Names.{text_is, text_differs}
-use Rattle.jl_config.proofs.PackageFaults.{item_here, not_shared, shared_here, shared_only, import_within, whole, shared_record}
+use Rattle.jl_config.proofs.PackageFaults.{not_shared, shared_here, shared_only, import_within, whole, shared_record}
 use Rattle.jl_config.proofs.packages.push_shared_at.Goals as goal
 
 pub name_at-requires : goal.name_at-requires
