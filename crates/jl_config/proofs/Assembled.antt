@@ -8,7 +8,7 @@ use Rattle.jl_prim.specs.declared.declaration.Observed.{Observed}
 use Rattle.jl_logic.specs.Order.{IsLeast, RisesBy}
 use Rattle.jl_logic.proofs.Rising.{contains_head, each_from_members}
 use Rattle.jl_config.specs.declared.fault.ResolveFault.{ResolveFault}
-use Rattle.jl_config.specs.declared.fault.ResolveFault.TheVariants.{NoParents, NotFound, TooMany, Cycle, SameName, SamePackage, OwnPackage, ServicePackage, NoMemory}
+use Rattle.jl_config.specs.declared.fault.ResolveFault.TheVariants.{NotFound, TooMany, Cycle, SameName, SamePackage, OwnPackage, ServicePackage, NoMemory}
 use Rattle.jl_config.specs.declared.site.Site.{Site}
 use Rattle.jl_config.specs.Graphs.{Graph}
 use Rattle.jl_config.specs.Located.{Asked, Scene, scene_of}
@@ -22,6 +22,7 @@ use Rattle.jl_config.proofs.Always.{IsTooMany, module_here}
 use Rattle.jl_config.proofs.RisingLists.{not_below_itself, no_longer}
 use Rattle.jl_config.proofs.Unique.{told_by_least}
 use Rattle.jl_config.proofs.Lists.{into_map, from_map, into_filter_map, from_filter_map, filter_map_long, item_at}
+use Rattle.jl_config.specs.Settled.{StartsAt}
 
 -- ---- kinds of refusals, in their order
 
@@ -31,29 +32,15 @@ pub record IsKind (q : Asked) (k : ℕ) (K : ResolveFault → Type 0) : Type 0 w
   pub ranked : (f : ResolveFault) → K f → rank f ≡ k
   pub all : (f : ResolveFault) → Applies q f → rank f ≡ k → K f
 
--- no refusal of an earlier kind applies
-pub record NoneBefore (q : Asked) (k : ℕ) : Type 0 where
-  pub least : (f : ResolveFault) → Applies q f → k ≤ rank f
-
-pub none_at_first : (q : Asked) → NoneBefore q 0
-none_at_first q = record { least = λ f a. omega arith }
-
-pub none_further : (q : Asked) (k : ℕ) (K : ResolveFault → Type 0) → IsKind q k K → NoneBefore q k → ((f : ResolveFault) → K f → ⊥) → NoneBefore q (suc k)
-none_further q k K kind before none = record { least = λ f a. further (rank f) (before.least f a) (λ e. none f (kind.all f a e)) }
+pub none_further : (q : Asked) (k : ℕ) (K : ResolveFault → Type 0) → IsKind q k K → StartsAt q k → ((f : ResolveFault) → K f → ⊥) → StartsAt q (suc k)
+none_further q k K kind before none = λ f a. further (rank f) (before f a) (λ e. none f (kind.all f a e))
   where
     further : (r : ℕ) → k ≤ r → (r ≡ k → ⊥) → suc k ≤ r
     further r h n = omega arith
 
-pub nothing_applies : (q : Asked) → NoneBefore q 8 → (f : ResolveFault) → Applies q f → ⊥
-nothing_applies q before NoParents a = let h = before.least NoParents a in omega arith
-nothing_applies q before (NotFound name by) a = let h = before.least (NotFound name by) a in omega arith
-nothing_applies q before TooMany a = let h = before.least TooMany a in omega arith
-nothing_applies q before (Cycle least) a = let h = before.least (Cycle least) a in omega arith
-nothing_applies q before (SameName reader name) a = let h = before.least (SameName reader name) a in omega arith
-nothing_applies q before (SamePackage reader p one other) a = let h = before.least (SamePackage reader p one other) a in omega arith
-nothing_applies q before (OwnPackage reader p other) a = let h = before.least (OwnPackage reader p other) a in omega arith
-nothing_applies q before (ServicePackage name service) a = let h = before.least (ServicePackage name service) a in omega arith
+pub nothing_applies : (q : Asked) → StartsAt q 8 → (f : ResolveFault) → Applies q f → ⊥
 nothing_applies q before NoMemory a = a
+nothing_applies q before f a = let h = before f a in omega arith
 
 -- one of a later kind is not less
 later_not_less : (f g : ResolveFault) → rank f < rank g → fault_cmp g f ≢ Less
@@ -64,10 +51,10 @@ later_not_less f g lt e =
     (λ r h. let greater : ordering_then Greater (fields_cmp (fields g) (fields f)) ≡ Less = subst (λ o. ordering_then o (fields_cmp (fields g) (fields f)) ≡ Less) r e in absurd cc)
 
 -- the least of the first kind that applies is the answer
-pub first_refusal : (q : Asked) (k : ℕ) (K : ResolveFault → Type 0) → IsKind q k K → NoneBefore q k → (f : ResolveFault) → IsLeast fault_cmp K f → Resolves q (Err f)
+pub first_refusal : (q : Asked) (k : ℕ) (K : ResolveFault → Type 0) → IsKind q k K → StartsAt q k → (f : ResolveFault) → IsLeast fault_cmp K f → Resolves q (Err f)
 first_refusal q k K kind before f least = told_by_least q f (record {
   has = kind.applies f least.has;
-  least = λ g a. ⊎_elim (λ e. least.least g (kind.all g a e)) (λ lt. later_not_less f g (past (rank f) (rank g) (kind.ranked f least.has) lt)) (same_or_later (rank g) (before.least g a));
+  least = λ g a. ⊎_elim (λ e. least.least g (kind.all g a e)) (λ lt. later_not_less f g (past (rank f) (rank g) (kind.ranked f least.has) lt)) (same_or_later (rank g) (before g a));
 })
   where
     past : (r s : ℕ) → r ≡ k → k < s → r < s
@@ -82,18 +69,8 @@ first_refusal q k K kind before f least = told_by_least q f (record {
 
 -- ---- each kind
 
-abbrev pub NoParentsFault : Asked → ResolveFault → Type 0
-NoParentsFault q f = (q.parents ≡ []) × (NoParents ≡ f)
-
 abbrev pub TooManyFault : Asked → ResolveFault → Type 0
 TooManyFault q f = IsTooMany q × (TooMany ≡ f)
-
-no_parents_all : (q : Asked) (f : ResolveFault) → Applies q f → rank f ≡ 0 → NoParentsFault q f
-no_parents_all q NoParents a e = (a, refl)
-no_parents_all q f a e = absurd (omega arith)
-
-pub no_parents_kind : (q : Asked) → IsKind q 0 (NoParentsFault q)
-no_parents_kind q = record { applies = λ f k. subst (Applies q) k.1 k.0; ranked = λ f k. ap rank (sym k.1); all = no_parents_all q }
 
 too_many_all : (q : Asked) (f : ResolveFault) → Applies q f → rank f ≡ 2 → TooManyFault q f
 too_many_all q TooMany a e = (a, refl)
@@ -173,7 +150,7 @@ service_kind q = record { applies = λ f k. (service_applies q f k).0; ranked = 
 alone_least : (A : Type 0) (f : ResolveFault) → A → IsLeast fault_cmp (λ g. A × (f ≡ g)) f
 alone_least A f a = record { has = (a, refl); least = λ g k l. not_below_itself fault_cmp fault_total f (subst (λ h. fault_cmp h f ≡ Less) (sym k.1) l) }
 
-pub too_many_first : (q : Asked) → NoneBefore q 2 → IsTooMany q → Resolves q (Err TooMany)
+pub too_many_first : (q : Asked) → StartsAt q 2 → IsTooMany q → Resolves q (Err TooMany)
 too_many_first q before k = first_refusal q 2 (TooManyFault q) (too_many_kind q) before TooMany (alone_least (IsTooMany q) TooMany k)
 
 -- ---- what is bound

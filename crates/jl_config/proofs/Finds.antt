@@ -8,7 +8,8 @@ use Rattle.jl_config.specs.Located.{site_name, is_numbered, find_named, find_sit
 use Rattle.jl_config.specs.Places.{place_named, place_of_site}
 use Rattle.jl_config.specs.Tables.{first_where}
 use Rattle.jl_config.proofs.Names.{text_is}
-use Rattle.jl_config.proofs.Sighted.{named_test, first_named, own_test, first_own}
+use Rattle.jl_config.proofs.Sighted.{first_named, own_test, first_own}
+use Rattle.jl_config.specs.Lineages.{is_named}
 
 module _ {X : Type 0} (test : X → Bool) where
   abbrev pub find_where : List X → Option X
@@ -70,9 +71,9 @@ module _ {X : Type 0} (test : X → Bool) where
 
 -- ---- by a name
 
-named_find : (name : List ℕ) (ss : List Site) → find_named name ss ≡ find_where (named_test name) ss
+named_find : (name : List ℕ) (ss : List Site) → find_named name ss ≡ find_where (is_named name) ss
 named_find name [] = refl
-named_find name (s ∷ ss) = ap (λ (o : Option Site). cond (named_test name s) (Some s) o) (named_find name ss)
+named_find name (s ∷ ss) = ap (λ (o : Option Site). cond (is_named name s) (Some s) o) (named_find name ss)
 
 pub record NamedAt (name : List ℕ) (ss : List Site) (p : ℕ) (s : Site) : Type 0 where
   pub at : slice_get ss p ≡ Some s
@@ -80,14 +81,14 @@ pub record NamedAt (name : List ℕ) (ss : List Site) (p : ℕ) (s : Site) : Typ
   pub first : place_named name ss ≡ Some p
   pub named : site_name s ≡ name
 
-as_named : (name : List ℕ) (ss : List Site) (p : ℕ) (s : Site) → FirstAt (named_test name) ss p s → NamedAt name ss p s
+as_named : (name : List ℕ) (ss : List Site) (p : ℕ) (s : Site) → FirstAt (is_named name) ss p s → NamedAt name ss p s
 as_named name ss p s f = record { at = f.at; found = named_find name ss ∙ f.found; first = first_named name ss ∙ f.first; named = text_is (site_name s) name f.passes }
 
 pub named_shows : (name : List ℕ) (ss : List Site) (p : ℕ) → place_named name ss ≡ Some p → (s : Site) × NamedAt name ss p s
-named_shows name ss p e = let r = where_shows (named_test name) ss p (sym (first_named name ss) ∙ e) in (r.0, as_named name ss p r.0 r.1)
+named_shows name ss p e = let r = where_shows (is_named name) ss p (sym (first_named name ss) ∙ e) in (r.0, as_named name ss p r.0 r.1)
 
 pub named_place : (name : List ℕ) (ss : List Site) (s : Site) → find_named name ss ≡ Some s → (p : ℕ) × NamedAt name ss p s
-named_place name ss s e = let r = where_place (named_test name) ss s (sym (named_find name ss) ∙ e) in (r.0, as_named name ss r.0 s r.1)
+named_place name ss s e = let r = where_place (is_named name) ss s (sym (named_find name ss) ∙ e) in (r.0, as_named name ss r.0 s r.1)
 
 -- ---- by a configuration and a name
 
@@ -107,7 +108,7 @@ pub record OwnAt (config : ConfigId) (name : List ℕ) (ss : List Site) (p : ℕ
 
 as_own : (config : ConfigId) (name : List ℕ) (ss : List Site) (p : ℕ) (s : Site) → FirstAt (own_test config name) ss p s → OwnAt config name ss p s
 as_own config name ss p s f =
-    let both = and_parts (is_numbered s.config config) (named_test name s) f.passes in
+    let both = and_parts (is_numbered s.config config) (is_named name s) f.passes in
     record { at = f.at; found = own_find config name ss ∙ f.found; first = first_own config name ss ∙ f.first; numbered = same_number s.config config both.0; named = text_is (site_name s) name both.1 }
 
 pub own_shows : (config : ConfigId) (name : List ℕ) (ss : List Site) (p : ℕ) → place_of_site config name ss ≡ Some p → (s : Site) × OwnAt config name ss p s
@@ -118,4 +119,4 @@ own_place_of config name ss s e = let r = where_place (own_test config name) ss 
 
 -- the first of a name is the first of its configuration and name too
 pub named_first : (name : List ℕ) (ss : List Site) (p : ℕ) (s : Site) → place_named name ss ≡ Some p → slice_get ss p ≡ Some s → place_of_site s.config name ss ≡ Some p
-named_first name ss p s e at = first_own s.config name ss ∙ first_of_both (named_test name) (λ v. is_numbered v.config s.config) ss p s (sym (first_named name ss) ∙ e) at (eq-eqb s.config.0 s.config.0 refl)
+named_first name ss p s e at = first_own s.config name ss ∙ first_of_both (is_named name) (λ v. is_numbered v.config s.config) ss p s (sym (first_named name ss) ∙ e) at (eq-eqb s.config.0 s.config.0 refl)

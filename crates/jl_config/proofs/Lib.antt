@@ -1,3 +1,4 @@
+pub mod PlaceTables
 pub mod Lists
 pub mod Names
 pub mod CyclePlaces
