@@ -1,4 +1,4 @@
-use Rattle.std.proofs.Common.{◌≡◌, ◌≢◌, ◌∙◌, sym, ap, Some, slice_get}
+use Rattle.std.proofs.Common.{◌≡◌, ◌≢◌, ◌∙◌, sym, Some, slice_get}
 use Rattle.jl_config.specs.Imported.{IsExportedAt, IsExportedBy}
 use Rattle.jl_config.specs.Located.{site_name}
 use Rattle.jl_config.specs.ReadRows.{name_at}
