@@ -17,8 +17,9 @@ use Rattle.jl_config.specs.Orders.{read_cmp}
 use Rattle.jl_config.specs.Places.{SameNameFault}
 use Rattle.jl_config.specs.ReadRows.{option_name, option_config, name_at, place_cmp, reading_cmp, IsReadingOf, AreReadings, read_between, reads_in}
 use Rattle.jl_config.specs.Resolves.{AreReads, read_of}
-use Rattle.jl_config.proofs.ReadLists.{into_map, from_map, into_flat_map, from_flat_map}
-use Rattle.jl_config.proofs.SameNames.{names_exact, place_read, one_first, not_before_itself}
+use Rattle.jl_config.proofs.Lists.{into_flat_map, from_flat_map, into_map, from_map}
+use Rattle.jl_config.proofs.SameNames.{place_read, one_first, not_before_itself}
+use Rattle.jl_config.proofs.Names.{names_exact}
 
 -- what an order by two parts says, where the first does not tie
 first_less : (o p : Ordering) → (o ≡ Equal → ⊥) → ordering_then o p ≡ Less → o ≡ Less

@@ -14,11 +14,12 @@ use Rattle.jl_config.specs.Members.{IsMember, Reads}
 use Rattle.jl_config.specs.Orders.{module_cmp, read_cmp}
 use Rattle.jl_config.specs.Refusals.{IsMissing, IsLarge, most, IsOnCircle, IsSameName, IsSamePackage, IsOwnPackage, IsServicePackage, Applies, fault_cmp}
 use Rattle.jl_config.specs.Resolves.{Resolves, AreModules, AreReads, IsGraphOf, read_of, new_site}
-use Rattle.jl_config.proofs.FaultOrder.{fault_total, modules_total, reads_total, names_exact, reads_exact}
+use Rattle.jl_config.proofs.FaultOrder.{fault_total, modules_total, reads_total, reads_exact}
+use Rattle.jl_config.proofs.Names.{names_exact}
 use Rattle.jl_config.proofs.FaultListings.{missing_listed, decided_large, same_name_listed, same_package_listed, own_package_listed, service_listed}
 use Rattle.jl_config.proofs.DeclaredLists.{decided_config}
 use Rattle.jl_config.proofs.Listed.{Lists, all_listed}
-use Rattle.jl_config.proofs.FoundPlaces.{one_of_name, member_found}
+use Rattle.jl_config.proofs.MemberFinds.{one_of_name, member_found}
 use Rattle.jl_config.proofs.Listings.{Listing, Decided, decided_either, decided_less, listing_each, listing_same, listing_either, listing_if, listing_map}
 use Rattle.jl_config.proofs.RisingLists.{Rising, sorted, least_or_none}
 use Rattle.jl_config.proofs.Unique.{least_told, told_by_least}

@@ -1,14 +1,14 @@
 -- A resolution put together of the searches for refusals of one kind each, and of the modules and reads.
-use Rattle.std.proofs.Common.{◌≡◌, ◌≢◌, ◌⊎◌, ◌<◌, ◌≤◌, ℕ, zero, suc, ◌-◌, List, [], ◌∷◌, length, map, inl, inr, ⊎_elim, refl, sym, ◌∙◌, ap, subst, Contains, All, Option, Some, None, Bool, true, false, Less, Greater, nat_cmp, Err, slice_get, filter_map, arith}
-use Rattle.std.specs.List.{AllByRecursion, cons_option}
+use Rattle.std.proofs.Common.{◌≡◌, ◌≢◌, ◌⊎◌, ◌<◌, ◌≤◌, ℕ, zero, suc, ◌-◌, List, [], ◌∷◌, length, map, inl, inr, ⊎_elim, refl, sym, ap, subst, Contains, All, Some, Bool, true, false, Less, Greater, nat_cmp, Err, slice_get, arith}
+use Rattle.std.specs.List.{AllByRecursion}
 use Rattle.std.specs.Ordering.{ordering_then}
 use Rattle.std.proofs.lemmas.Cmp.{ranked, by_ranked}
 use Rattle.std.proofs.lemmas.List.Elements.{All-from_recursion, All-contains}
 use Rattle.jl_prim.specs.declared.declaration.Observed.{Observed}
-use Rattle.jl_logic.specs.Order.{RisesBy, IsLeast}
-use Rattle.jl_logic.proofs.Rising.{contains_head, contains_tail, contains_cases, contains_nothing, each_from_members}
+use Rattle.jl_logic.specs.Order.{IsLeast, RisesBy}
+use Rattle.jl_logic.proofs.Rising.{contains_head, each_from_members}
 use Rattle.jl_config.specs.declared.fault.ResolveFault.{ResolveFault}
-use Rattle.jl_config.specs.declared.fault.ResolveFault.TheVariants.{NoParents, NotFound, TooMany, Cycle, SameName, SamePackage, OwnPackage, ServicePackage, NoMemory}
+use Rattle.jl_config.specs.declared.fault.ResolveFault.TheVariants.{NotFound, TooMany, Cycle, SameName, SamePackage, OwnPackage, ServicePackage, NoMemory}
 use Rattle.jl_config.specs.declared.site.Site.{Site}
 use Rattle.jl_config.specs.Graphs.{Graph}
 use Rattle.jl_config.specs.Located.{Asked, Scene, scene_of}
@@ -21,6 +21,8 @@ use Rattle.jl_config.proofs.FaultOrder.{fault_total, sites_total}
 use Rattle.jl_config.proofs.Always.{IsTooMany, module_here}
 use Rattle.jl_config.proofs.RisingLists.{not_below_itself, no_longer}
 use Rattle.jl_config.proofs.Unique.{told_by_least}
+use Rattle.jl_config.proofs.Lists.{into_map, from_map, into_filter_map, from_filter_map, filter_map_long, item_at}
+use Rattle.jl_config.specs.Settled.{StartsAt}
 
 -- ---- kinds of refusals, in their order
 
@@ -30,29 +32,15 @@ pub record IsKind (q : Asked) (k : ℕ) (K : ResolveFault → Type 0) : Type 0 w
   pub ranked : (f : ResolveFault) → K f → rank f ≡ k
   pub all : (f : ResolveFault) → Applies q f → rank f ≡ k → K f
 
--- no refusal of an earlier kind applies
-pub record NoneBefore (q : Asked) (k : ℕ) : Type 0 where
-  pub least : (f : ResolveFault) → Applies q f → k ≤ rank f
-
-pub none_at_first : (q : Asked) → NoneBefore q 0
-none_at_first q = record { least = λ f a. omega arith }
-
-pub none_further : (q : Asked) (k : ℕ) (K : ResolveFault → Type 0) → IsKind q k K → NoneBefore q k → ((f : ResolveFault) → K f → ⊥) → NoneBefore q (suc k)
-none_further q k K kind before none = record { least = λ f a. further (rank f) (before.least f a) (λ e. none f (kind.all f a e)) }
+pub none_further : (q : Asked) (k : ℕ) (K : ResolveFault → Type 0) → IsKind q k K → StartsAt q k → ((f : ResolveFault) → K f → ⊥) → StartsAt q (suc k)
+none_further q k K kind before none = λ f a. further (rank f) (before f a) (λ e. none f (kind.all f a e))
   where
     further : (r : ℕ) → k ≤ r → (r ≡ k → ⊥) → suc k ≤ r
     further r h n = omega arith
 
-pub nothing_applies : (q : Asked) → NoneBefore q 8 → (f : ResolveFault) → Applies q f → ⊥
-nothing_applies q before NoParents a = let h = before.least NoParents a in omega arith
-nothing_applies q before (NotFound name by) a = let h = before.least (NotFound name by) a in omega arith
-nothing_applies q before TooMany a = let h = before.least TooMany a in omega arith
-nothing_applies q before (Cycle least) a = let h = before.least (Cycle least) a in omega arith
-nothing_applies q before (SameName reader name) a = let h = before.least (SameName reader name) a in omega arith
-nothing_applies q before (SamePackage reader p one other) a = let h = before.least (SamePackage reader p one other) a in omega arith
-nothing_applies q before (OwnPackage reader p other) a = let h = before.least (OwnPackage reader p other) a in omega arith
-nothing_applies q before (ServicePackage name service) a = let h = before.least (ServicePackage name service) a in omega arith
+pub nothing_applies : (q : Asked) → StartsAt q 8 → (f : ResolveFault) → Applies q f → ⊥
 nothing_applies q before NoMemory a = a
+nothing_applies q before f a = let h = before f a in omega arith
 
 -- one of a later kind is not less
 later_not_less : (f g : ResolveFault) → rank f < rank g → fault_cmp g f ≢ Less
@@ -63,10 +51,10 @@ later_not_less f g lt e =
     (λ r h. let greater : ordering_then Greater (fields_cmp (fields g) (fields f)) ≡ Less = subst (λ o. ordering_then o (fields_cmp (fields g) (fields f)) ≡ Less) r e in absurd cc)
 
 -- the least of the first kind that applies is the answer
-pub first_refusal : (q : Asked) (k : ℕ) (K : ResolveFault → Type 0) → IsKind q k K → NoneBefore q k → (f : ResolveFault) → IsLeast fault_cmp K f → Resolves q (Err f)
+pub first_refusal : (q : Asked) (k : ℕ) (K : ResolveFault → Type 0) → IsKind q k K → StartsAt q k → (f : ResolveFault) → IsLeast fault_cmp K f → Resolves q (Err f)
 first_refusal q k K kind before f least = told_by_least q f (record {
   has = kind.applies f least.has;
-  least = λ g a. ⊎_elim (λ e. least.least g (kind.all g a e)) (λ lt. later_not_less f g (past (rank f) (rank g) (kind.ranked f least.has) lt)) (same_or_later (rank g) (before.least g a));
+  least = λ g a. ⊎_elim (λ e. least.least g (kind.all g a e)) (λ lt. later_not_less f g (past (rank f) (rank g) (kind.ranked f least.has) lt)) (same_or_later (rank g) (before g a));
 })
   where
     past : (r s : ℕ) → r ≡ k → k < s → r < s
@@ -81,18 +69,8 @@ first_refusal q k K kind before f least = told_by_least q f (record {
 
 -- ---- each kind
 
-abbrev pub NoParentsFault : Asked → ResolveFault → Type 0
-NoParentsFault q f = (q.parents ≡ []) × (NoParents ≡ f)
-
 abbrev pub TooManyFault : Asked → ResolveFault → Type 0
 TooManyFault q f = IsTooMany q × (TooMany ≡ f)
-
-no_parents_all : (q : Asked) (f : ResolveFault) → Applies q f → rank f ≡ 0 → NoParentsFault q f
-no_parents_all q NoParents a e = (a, refl)
-no_parents_all q f a e = absurd (omega arith)
-
-pub no_parents_kind : (q : Asked) → IsKind q 0 (NoParentsFault q)
-no_parents_kind q = record { applies = λ f k. subst (Applies q) k.1 k.0; ranked = λ f k. ap rank (sym k.1); all = no_parents_all q }
 
 too_many_all : (q : Asked) (f : ResolveFault) → Applies q f → rank f ≡ 2 → TooManyFault q f
 too_many_all q TooMany a e = (a, refl)
@@ -172,10 +150,7 @@ service_kind q = record { applies = λ f k. (service_applies q f k).0; ranked = 
 alone_least : (A : Type 0) (f : ResolveFault) → A → IsLeast fault_cmp (λ g. A × (f ≡ g)) f
 alone_least A f a = record { has = (a, refl); least = λ g k l. not_below_itself fault_cmp fault_total f (subst (λ h. fault_cmp h f ≡ Less) (sym k.1) l) }
 
-pub no_parents_first : (q : Asked) → q.parents ≡ [] → Resolves q (Err NoParents)
-no_parents_first q e = first_refusal q 0 (NoParentsFault q) (no_parents_kind q) (none_at_first q) NoParents (alone_least (q.parents ≡ []) NoParents e)
-
-pub too_many_first : (q : Asked) → NoneBefore q 2 → IsTooMany q → Resolves q (Err TooMany)
+pub too_many_first : (q : Asked) → StartsAt q 2 → IsTooMany q → Resolves q (Err TooMany)
 too_many_first q before k = first_refusal q 2 (TooManyFault q) (too_many_kind q) before TooMany (alone_least (IsTooMany q) TooMany k)
 
 -- ---- what is bound
@@ -198,48 +173,14 @@ justified_by_members q g modules o c = member_bound (scene_of q) (new_site q o) 
 
 -- ---- members by their places, in order
 
-module _ {X Y : Type 0} (h : X → Option Y) where
-  kept : (xs : List X) (x : X) (y : Y) → Contains xs x → h x ≡ Some y → Contains (filter_map h xs) y
-  kept [] x y c e = contains_nothing x c
-  kept (w ∷ xs) x y c e = ⊎_elim (λ f. here (h w) (ap h f ∙ e)) (λ k. later (h w) (kept xs x y k e)) (contains_cases w x xs c)
-    where
-      here : (o : Option Y) → o ≡ Some y → Contains (cons_option o (filter_map h xs)) y
-      here None f = absurd cc
-      here (Some z) f = let g : z ≡ y = cc in subst (λ v. Contains (z ∷ filter_map h xs) v) g (contains_head z (filter_map h xs))
-
-      later : (o : Option Y) → Contains (filter_map h xs) y → Contains (cons_option o (filter_map h xs)) y
-      later None k = k
-      later (Some z) k = contains_tail z y (filter_map h xs) k
-
-  kept_from : (xs : List X) (y : Y) → Contains (filter_map h xs) y → (x : X) × Contains xs x × (h x ≡ Some y)
-  kept_from [] y c = contains_nothing y c
-  kept_from (w ∷ xs) y c = by (λ k. let r = kept_from xs y k in (r.0, contains_tail w r.0 xs r.1, r.2)) (h w) refl c
-    where
-      by : (Contains (filter_map h xs) y → (x : X) × Contains (w ∷ xs) x × (h x ≡ Some y)) → (o : Option Y) → h w ≡ o → Contains (cons_option o (filter_map h xs)) y → (x : X) × Contains (w ∷ xs) x × (h x ≡ Some y)
-      by more None e k = more k
-      by more (Some z) e k = ⊎_elim (λ f. (w, contains_head w xs, e ∙ ap Some f)) more (contains_cases z y (filter_map h xs) k)
-
-  kept_long : (xs : List X) → AllByRecursion (λ x. (y : Y) × (h x ≡ Some y)) xs → length (filter_map h xs) ≡ length xs
-  kept_long [] a = refl
-  kept_long (w ∷ xs) a = by (kept_long xs a.1) (h w) a.0.0 a.0.1
-    where
-      by : length (filter_map h xs) ≡ length xs → (o : Option Y) (y : Y) → o ≡ Some y → length (cons_option o (filter_map h xs)) ≡ length (w ∷ xs)
-      by more None y e = absurd cc
-      by more (Some z) y e = omega arith
-
-item_below : {X : Type 0} (xs : List X) (p : ℕ) → p < length xs → (x : X) × (slice_get xs p ≡ Some x)
-item_below [] p h = absurd (omega arith)
-item_below (x ∷ xs) zero h = (x, refl)
-item_below (x ∷ xs) (suc p) h = item_below xs p (omega arith)
-
 sites_long : (w : Scene) (ps : List ℕ) → All (λ p. p < length w.sites) ps → length (sites_at w ps) ≡ length ps
-sites_long w ps a = kept_long (slice_get w.sites) ps (each_from_members (λ p. (s : Site) × (slice_get w.sites p ≡ Some s)) ps (λ p c. item_below w.sites p (All-contains (λ k. k < length w.sites) ps p a c)))
+sites_long w ps a = filter_map_long (slice_get w.sites) ps (each_from_members (λ p. (s : Site) × (slice_get w.sites p ≡ Some s)) ps (λ p c. item_at w.sites p (All-contains (λ k. k < length w.sites) ps p a c)))
 
 members_at : (w : Scene) (ps : List ℕ) → AreMembers w ps → (s : Site) → Contains (sites_at w ps) s → IsMember w s
-members_at w ps m s c = let k = kept_from (slice_get w.sites) ps s c in (m.only k.0 s k.1 k.2).0
+members_at w ps m s c = let k = from_filter_map (slice_get w.sites) ps s c in (m.only k.0 s k.1 k.2).0
 
 at_members : (w : Scene) (ps : List ℕ) → AreMembers w ps → (s : Site) → IsMember w s → Contains (sites_at w ps) s
-at_members w ps m s k = let r = m.all s k in kept (slice_get w.sites) ps r.0 s r.1 r.2
+at_members w ps m s k = let r = m.all s k in into_filter_map (slice_get w.sites) ps r.0 s r.1 r.2
 
 -- the set is too large exactly where there are more places than that
 pub large_by_places : (w : Scene) (ps : List ℕ) → AreMembers w ps → most < length ps → IsLarge w
@@ -272,20 +213,12 @@ rises_mapped : (ss : List Site) → RisesBy site_cmp ss → RisesBy module_cmp (
 rises_mapped [] up = tt
 rises_mapped (s ∷ ss) up = (above_mapped s ss up.0, rises_mapped ss up.1)
 
-mapped : (ss : List Site) (s : Site) → Contains ss s → Contains (map observed_of ss) s.observed
-mapped [] s c = contains_nothing s c
-mapped (t ∷ ss) s c = ⊎_elim (λ e. subst (λ v. Contains (t.observed ∷ map observed_of ss) (observed_of v)) e (contains_head t.observed (map observed_of ss))) (λ k. contains_tail t.observed s.observed (map observed_of ss) (mapped ss s k)) (contains_cases t s ss c)
-
-mapped_from : (ss : List Site) (o : Observed) → Contains (map observed_of ss) o → (s : Site) × Contains ss s × (s.observed ≡ o)
-mapped_from [] o c = contains_nothing o c
-mapped_from (t ∷ ss) o c = ⊎_elim (λ e. (t, contains_head t ss, e)) (λ k. let r = mapped_from ss o k in (r.0, contains_tail t r.0 ss r.1, r.2)) (contains_cases t.observed o (map observed_of ss) c)
-
 pub modules_by_places : (q : Asked) (ps : List ℕ) (os : List Observed) → AreMembers (scene_of q) ps → os ≡ map observed_of (sites_at (scene_of q) ps) → AreModules q os
 modules_by_places q ps os m e = subst (AreModules q) (sym e) (record {
   rise = rises_mapped (sites_at (scene_of q) ps) m.rise;
   only = λ o c.
-      let r = mapped_from (sites_at (scene_of q) ps) o c in
+      let r = from_map observed_of (sites_at (scene_of q) ps) o c in
       let here : IsMember (scene_of q) r.0 = members_at (scene_of q) ps m r.0 r.1 in
       subst (IsMember (scene_of q)) (module_here q r.0 o here r.2) here;
-  all = λ s k. mapped (sites_at (scene_of q) ps) s (at_members (scene_of q) ps m s k);
+  all = λ s k. into_map observed_of (sites_at (scene_of q) ps) s (at_members (scene_of q) ps m s k);
 })

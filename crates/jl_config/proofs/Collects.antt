@@ -1,19 +1,17 @@
 -- Lists that grow by what has a property, and the least of what was collected.
 use Rattle.std.proofs.Common.{◌≡◌, ◌≢◌, ◌<◌, ◌≤◌, ◌+◌, ◌⊎◌, ℕ, List, [], ◌∷◌, ◌++◌, length, take, get_or, inl, inr, ⊎_elim, refl, sym, ◌∙◌, ap, subst, Contains, Option, Some, None, Ordering, Less, Equal, Greater, arith}
-use Rattle.std.specs.Cmp.{IsTotalOrder}
-use Rattle.std.specs.Option.{option_map, option_cmp}
-use Rattle.std.specs.Ordering.{ordering_then, ordering_reverse}
-use Rattle.std.specs.Cmp.Lexicographic.{options_total, nat_list_cmp_total}
-use Rattle.std.proofs.lemmas.Cmp.{on_total, then_total, nat_cmp_total, lists_total}
+use Rattle.std.specs.Option.{option_map}
+use Rattle.std.specs.Ordering.{ordering_then}
 use Rattle.std.proofs.lemmas.List.{take_more, take_all, get_or_default}
-use Rattle.jl_logic.specs.Order.{name_cmp, optional_cmp}
-use Rattle.jl_logic.proofs.Rising.{contains_head, contains_nothing, apart_from_total}
+use Rattle.jl_logic.proofs.Rising.{contains_head, contains_nothing}
 use Rattle.jl_config.specs.declared.fault.ResolveFault.{ResolveFault}
 use Rattle.jl_config.specs.Collected.{Adds, Among}
 use Rattle.jl_config.specs.Places.{IsLeastSome}
-use Rattle.jl_config.specs.Refusals.{rank, fields, fault_cmp}
-use Rattle.jl_config.proofs.ReadLists.{contains_left, contains_right}
-use Rattle.jl_config.proofs.ReadOrders.{last_or_before, below_or_last}
+use Rattle.jl_config.specs.Refusals.{fault_cmp}
+use Rattle.std.proofs.lemmas.List.Elements.{Contains-append_left, Contains-append_right}
+use Rattle.jl_config.proofs.FaultOrder.{fault_total}
+use Rattle.jl_config.proofs.RisingLists.{not_below_itself, less_through}
+use Rattle.jl_config.proofs.Lists.{last_or_before, below_or_last}
 
 module _ {X : Type 0} where
   pub adds_none : (xs : List X) (P : X → Type 0) → ((x : X) → P x → ⊥) → Adds xs xs P
@@ -21,9 +19,9 @@ module _ {X : Type 0} where
 
   pub adds_one : (old new : List X) (y : X) (P : X → Type 0) → new ≡ old ++ y ∷ [] → P y → ((x : X) → P x → y ≡ x) → Adds old new P
   adds_one old new y P e p one = subst (λ (l : List X). Adds old l P) (sym e) (record {
-    keeps = λ x c. contains_left old (y ∷ []) x c;
+    keeps = λ x c. Contains-append_left old (y ∷ []) x c;
     only = λ x c. last_or_before old y x (Contains old x ⊎ P x) c inl (λ f. inr (subst P f p));
-    all = λ x q. subst (Contains (old ++ y ∷ [])) (one x q) (contains_right old (y ∷ []) y (contains_head y []));
+    all = λ x q. subst (Contains (old ++ y ∷ [])) (one x q) (Contains-append_right old (y ∷ []) y (contains_head y []));
   })
 
   -- what is added first and then
@@ -73,34 +71,14 @@ module _ {X Y : Type 0} (P : X → Y → Type 0) where
   among_more xs i x a b c lt is f g =
       let more : take i xs ++ x ∷ [] ≡ take (i + 1) xs = sym (take_more xs i x lt ∙ ap (λ w. take i xs ++ w ∷ []) (sym is)) in
       subst (λ l. Adds a c (Among P l)) more (adds_then a b c (Among P (take i xs)) (P x) (Among P (take i xs ++ x ∷ [])) f g
-      (λ y h. (h.0, contains_left (take i xs) (x ∷ []) h.0 h.1, h.2))
-      (λ y p. (x, contains_right (take i xs) (x ∷ []) x (contains_head x []), p))
+      (λ y h. (h.0, Contains-append_left (take i xs) (x ∷ []) h.0 h.1, h.2))
+      (λ y p. (x, Contains-append_right (take i xs) (x ∷ []) x (contains_head x []), p))
       (λ y h. last_or_before (take i xs) x h.0 (Among P (take i xs) y ⊎ P x y) h.1 (λ k. inl (h.0, k, h.2)) (λ e. inr (subst (λ v. P v y) (sym e) h.2))))
 
   pub among_all : (xs : List X) (i : ℕ) (a b : List Y) → length xs ≤ i → Adds a b (Among P (take i xs)) → Adds a b (Among P xs)
   among_all xs i a b le f = subst (λ l. Adds a b (Among P l)) (take_all i xs le) f
 
 -- ---- the least
-
-optional_is : (a b : Option (List ℕ)) → option_cmp name_cmp a b ≡ optional_cmp a b
-optional_is None None = refl
-optional_is None (Some b) = refl
-optional_is (Some a) None = refl
-optional_is (Some a) (Some b) = refl
-
-optional_total : IsTotalOrder optional_cmp
-optional_total = subst IsTotalOrder (λ i a b. optional_is a b i) (options_total nat_list_cmp_total)
-
-pub faults_total : IsTotalOrder fault_cmp
-faults_total = then_total (on_total rank nat_cmp_total) (on_total fields (lists_total optional_total))
-
--- of a total order: what is less than one that is no more than another is less than that
-less_through : {X : Type 0} {cmp : X → X → Ordering} → IsTotalOrder cmp → (a b m : X) → (r : Ordering) → cmp b a ≡ r → (r ≢ Less) → cmp b m ≡ Less → cmp a m ≡ Less
-less_through o a b m Less e n h = absurd (n refl)
-less_through o a b m Equal e n h = sym (o.congr b a m e) ∙ h
-less_through {X} {cmp} o a b m Greater e n h =
-    let back : cmp a b ≡ Less = o.antisymm a b ∙ ap ordering_reverse e in
-    o.trans a b m back h
 
 -- what orders of fields end with changes nothing
 pub then_equal : (o : Ordering) → ordering_then o Equal ≡ o
@@ -117,15 +95,13 @@ module _ {X : Type 0} (cmp : X → X → Ordering) (f : X → ResolveFault) (P :
     has = sound m h.has;
     least = λ g p l.
         let x = complete g p in
-        let less : fault_cmp (f x.0) (f m) ≡ Less = less_through faults_total (f x.0) g (f m) (fault_cmp g (f x.0)) refl x.2 l in
+        let less : fault_cmp (f x.0) (f m) ≡ Less = less_through fault_cmp fault_total (f x.0) g (f m) x.2 l in
         h.least x.0 x.1 (sym (order x.0 m) ∙ less);
   }
 
 -- a refusal is not less than itself
 pub fault_not_less : (g h : ResolveFault) → g ≡ h → fault_cmp g h ≢ Less
-fault_not_less g h e l =
-    let m : fault_cmp g g ≡ Less = subst (λ k. fault_cmp g k ≡ Less) (sym e) l in
-    apart_from_total fault_cmp faults_total g g m m
+fault_not_less g h e l = not_below_itself fault_cmp fault_total g (subst (λ k. fault_cmp g k ≡ Less) (sym e) l)
 
 -- the item of a loop is one of the list
 pub item_among : {X : Type 0} (xs : List X) (i : ℕ) (x : X) → i < length xs → x ≡ get_or xs i x → Contains xs x

@@ -1,10 +1,8 @@
 -- The places that lead back to themselves are those of members on a circle.
-use Rattle.std.proofs.Common.{◌≡◌, ◌≢◌, ◌<◌, ℕ, zero, suc, List, [], ◌∷◌, length, get_or, slice_get, ⊎_elim, refl, sym, ◌∙◌, ap, subst, Contains, All, Option, Some, None, Bool, true, false, cond, arith, Less}
+use Rattle.std.proofs.Common.{◌≡◌, ◌≢◌, ◌<◌, ℕ, zero, suc, List, [], ◌∷◌, length, get_or, slice_get, ⊎_elim, refl, sym, ◌∙◌, ap, subst, Contains, All, Option, Some, None, Bool, true, false, cond, Less}
 use Rattle.std.specs.List.{cons_option}
-use Rattle.std.specs.Cmp.Lexicographic.{nat_list_cmp_total}
-use Rattle.std.proofs.lemmas.Cmp.{on_total}
 use Rattle.std.proofs.lemmas.List.{length-map}
-use Rattle.std.proofs.lemmas.Option.{slice_get_within, slice_get-get_or}
+use Rattle.std.proofs.lemmas.Option.{slice_get_within, get_or_from_slice_get}
 use Rattle.std.proofs.lemmas.List.Elements.{All-contains}
 use Rattle.jl_prim.specs.declared.declaration.Requires.{Requires}
 use Rattle.jl_closure.specs.Reached.{Chain}
@@ -12,17 +10,17 @@ use Rattle.jl_logic.specs.Order.{name_cmp, RisesBy, IsLeast}
 use Rattle.jl_logic.proofs.Rising.{contains_head, contains_tail, contains_cases, contains_nothing, each_of_member, apart_from_total}
 use Rattle.jl_config.specs.declared.site.Site.{Site}
 use Rattle.jl_config.specs.declared.fault.ResolveFault.{ResolveFault}
-use Rattle.jl_config.specs.declared.fault.ResolveFault.TheVariants.{NoParents, NotFound, TooMany, Cycle, SameName, SamePackage, OwnPackage, ServicePackage, NoMemory}
+use Rattle.jl_config.specs.declared.fault.ResolveFault.TheVariants.{Cycle}
 use Rattle.jl_config.specs.Located.{Scene, site_name}
 use Rattle.jl_config.specs.Members.{IsMember}
 use Rattle.jl_config.specs.Orders.{site_cmp}
 use Rattle.jl_config.specs.Places.{place_named, AreMarks, AreMembers, sites_at, CycleFault}
 use Rattle.jl_config.specs.Refusals.{HasEdge, Leads, IsOnCircle, fault_cmp}
 use Rattle.jl_config.specs.Rounds.{kept_marked, edge_place, edge_row, edge_rows, Rounds, IsFirstRound}
-use Rattle.jl_config.proofs.MemberFinds.{same_item, FoundAt, site_at, named_so}
-use Rattle.jl_config.proofs.MemberLists.{into_filter_map, from_filter_map, row_at, from_map}
-use Rattle.jl_config.proofs.MemberChains.{all_of, member_reached}
-use Rattle.jl_config.proofs.FaultOrders.{cycle_cmp}
+use Rattle.jl_config.proofs.MemberFinds.{FoundAt, found_where, member_found}
+use Rattle.jl_config.proofs.Lists.{into_filter_map, from_filter_map, from_map, row_at, all_of, same_item, item_at, mark_of}
+use Rattle.jl_config.proofs.FaultOrder.{cycle_cmp, sites_total}
+use Rattle.jl_config.proofs.Finds.{named_shows, named_place}
 
 kept_shows : (marks : List Bool) (o : Option ℕ) (p : ℕ) → kept_marked marks o ≡ Some p → (o ≡ Some p) × (get_or marks p false ≡ true)
 kept_shows marks None p e = absurd cc
@@ -31,16 +29,6 @@ kept_shows marks (Some q) p e = by (get_or marks q false) refl e
     by : (b : Bool) → get_or marks q false ≡ b → cond b (Some q) None ≡ Some p → (Some q ≡ Some p) × (get_or marks p false ≡ true)
     by true f g = let same : q ≡ p = cc in (g, ap (λ (k : ℕ). get_or marks k false) (sym same) ∙ f)
     by false f g = absurd cc
-
-mark_of : (marks : List Bool) (p : ℕ) → get_or marks p false ≡ true → slice_get marks p ≡ Some true
-mark_of [] p e = absurd cc
-mark_of (m ∷ marks) zero e = ap Some e
-mark_of (m ∷ marks) (suc p) e = mark_of marks p e
-
-mark_so : (marks : List Bool) (p : ℕ) → slice_get marks p ≡ Some true → get_or marks p false ≡ true
-mark_so [] p e = absurd cc
-mark_so (m ∷ marks) zero e = cc
-mark_so (m ∷ marks) (suc p) e = mark_so marks p e
 
 module _ (w : Scene) (marks : List Bool) (right : AreMarks w marks) where
   abbrev Edges : Site → List ℕ
@@ -53,21 +41,21 @@ module _ (w : Scene) (marks : List Bool) (right : AreMarks w marks) where
   edge_shows s q c =
       let r = from_filter_map (edge_place w marks) s.observed.declaration.required q c in
       let k = kept_shows marks (place_named r.0.name w.sites) q r.2 in
-      let t = site_at r.0.name w.sites q k.0 in
-      (t.0, t.1, (r.0, r.1, t.2, (right.only q t.0 t.1 (mark_of marks q k.1)).0))
+      let t = named_shows r.0.name w.sites q k.0 in
+      (t.0, t.1.at, (r.0, r.1, t.1.found, (right.only q t.0 t.1.at (mark_of marks q k.1)).0))
 
   pub marked_at : (t : Site) → IsMember w t → (q : ℕ) × FoundAt w q t × (slice_get marks q ≡ Some true)
   marked_at t m =
-      let r = member_reached w t m in
+      let r = found_where w t (member_found w t m) in
       let f : FoundAt w r.0 t = r.1 in
       (r.0, f, right.all r.0 t f.at m f.first)
 
   edge_has : (s t : Site) (q : ℕ) → FoundAt w q t → HasEdge w s t → Contains (Edges s) q
   edge_has s t q f h =
       let r : Requires = h.0 in
-      let named : site_name t ≡ r.name = named_so r.name w.sites t h.2 in
+      let named : site_name t ≡ r.name = (named_place r.name w.sites t h.2).1.named in
       let place : place_named r.name w.sites ≡ Some q = ap (λ (n : List ℕ). place_named n w.sites) (sym named) ∙ f.first in
-      let mark : get_or marks q false ≡ true = mark_so marks q (right.all q t f.at h.3 f.first) in
+      let mark : get_or marks q false ≡ true = get_or_from_slice_get marks q true false (right.all q t f.at h.3 f.first) in
       let kept : edge_place w marks r ≡ Some q = ap (kept_marked marks) place ∙ ap (λ (b : Bool). cond b (Some q) None) mark in
       into_filter_map (edge_place w marks) s.observed.declaration.required r q h.1 kept
 
@@ -79,10 +67,6 @@ module _ (w : Scene) (marks : List Bool) (right : AreMarks w marks) where
       let e = edge_shows r.0 q c in
       (e.0, e.1, (r.0, r.2, e.2))
 
-  leads_member : (n : ℕ) (s t : Site) → Leads w n s t → IsMember w t
-  leads_member zero s t h = h.3
-  leads_member (suc n) s t h = h.2.3
-
   leads_chain : (s : Site) (n : ℕ) (t : Site) → Leads w n s t → (q : ℕ) × FoundAt w q t × Chain Rows (Edges s) n q
   leads_chain s zero t h = let r = marked_at t h.3 in (r.0, r.1, edge_has s t r.0 r.1 h)
   leads_chain s (suc n) t h =
@@ -92,14 +76,14 @@ module _ (w : Scene) (marks : List Bool) (right : AreMarks w marks) where
       let c : Contains (Edges h.0) r.0 = edge_has h.0 t r.0 r.1 h.2 in
       (r.0, r.1, (before.0, before.2, subst (λ (l : List ℕ). Contains l r.0) (sym (row_at Edges w.sites before.0 h.0 [] b.at)) c))
 
-  rounds_shows : (p : ℕ) (s : Site) → slice_get w.sites p ≡ Some s → Rounds Rows p → (n : ℕ) × Leads w n s s
+  pub rounds_shows : (p : ℕ) (s : Site) → slice_get w.sites p ≡ Some s → Rounds Rows p → (n : ℕ) × Leads w n s s
   rounds_shows p s at h =
       let row : get_or Rows p [] ≡ Edges s = row_at Edges w.sites p s [] at in
       let c : Chain Rows (Edges s) h.0 p = subst (λ (l : List ℕ). Chain Rows l h.0 p) row h.1 in
       let r = chain_leads s h.0 p c in
       (h.0, subst (λ (t : Site). Leads w h.0 s t) (same_item r.0 s (slice_get w.sites p) r.1 at) r.2)
 
-  rounds_has : (p : ℕ) (s : Site) → FoundAt w p s → (n : ℕ) → Leads w n s s → Rounds Rows p
+  pub rounds_has : (p : ℕ) (s : Site) → FoundAt w p s → (n : ℕ) → Leads w n s s → Rounds Rows p
   rounds_has p s f n h =
       let r = leads_chain s n s h in
       let g : FoundAt w r.0 s = r.1 in
@@ -107,26 +91,19 @@ module _ (w : Scene) (marks : List Bool) (right : AreMarks w marks) where
       let row : get_or Rows p [] ≡ Edges s = row_at Edges w.sites p s [] f.at in
       (n, subst (λ (l : List ℕ). Chain Rows l n p) (sym row) (subst (λ (k : ℕ). Chain Rows (Edges s) n k) same r.2))
 
-  pub edges_long : length Rows ≡ length w.sites
-  edges_long = length-map w.sites Edges
+  pub edges_below : (s : Site) → All (λ p. p < length Rows) (Edges s)
+  edges_below s = all_of (λ p. p < length Rows) (Edges s) (λ p c. let r = edge_shows s p c in subst (λ (n : ℕ). p < n) (sym (length-map w.sites Edges)) (slice_get_within w.sites p r.0 r.1))
 
-  edges_below : (s : Site) → All (λ p. p < length w.sites) (Edges s)
-  edges_below s = all_of (λ p. p < length w.sites) (Edges s) (λ p c. let r = edge_shows s p c in slice_get_within w.sites p r.0 r.1)
-
-  pub edges_within : All (λ r. All (λ p. p < length w.sites) r) Rows
+  pub edges_within : All (λ r. All (λ p. p < length Rows) r) Rows
   edges_within =
-      all_of (λ r. All (λ p. p < length w.sites) r) Rows (λ r c.
+      all_of (λ r. All (λ p. p < length Rows) r) Rows (λ r c.
       let s = from_map Edges w.sites r c in
-      subst (λ (l : List ℕ). All (λ p. p < length w.sites) l) s.2 (edges_below s.0))
-
-  item_of : (ss : List Site) (p : ℕ) → p < length ss → (s : Site) × (slice_get ss p ≡ Some s)
-  item_of [] p lt = absurd (omega arith)
-  item_of (s ∷ ss) p lt = (get_or (s ∷ ss) p s, slice_get-get_or (s ∷ ss) p s lt)
+      subst (λ (l : List ℕ). All (λ p. p < length Rows) l) s.2 (edges_below s.0))
 
   -- ---- the least
 
   apart : (x y : Site) → site_cmp x y ≡ Less → site_cmp y x ≡ Less → ⊥
-  apart = apart_from_total site_cmp (on_total site_name nat_list_cmp_total)
+  apart = apart_from_total site_cmp sites_total
 
   abbrev Stand : List ℕ → Type 0
   Stand ps = (p : ℕ) → Contains ps p → (s : Site) × (slice_get w.sites p ≡ Some s)
@@ -177,7 +154,7 @@ module _ (w : Scene) (marks : List Bool) (right : AreMarks w marks) where
 
   module _ (ps : List ℕ) (members : AreMembers w ps) where
     stand_all : Stand ps
-    stand_all p c = item_of w.sites p (All-contains (λ k. k < length w.sites) ps p members.within c)
+    stand_all p c = item_at w.sites p (All-contains (λ k. k < length w.sites) ps p members.within c)
 
     pub first_within : (q : ℕ) → IsFirstRound Rows ps (Some q) → q < length w.sites
     first_within q e = let r = stand_all q (first_shows ps stand_all members.rise q e).0 in slice_get_within w.sites q r.0 r.1
@@ -194,15 +171,8 @@ module _ (w : Scene) (marks : List Bool) (right : AreMarks w marks) where
         (r.0, s, r.1, r.2, h.2, rounds_has r.0 s f h.3.0 h.3.1)
 
     pub no_cycle : IsFirstRound Rows ps None → (f : ResolveFault) → CycleFault w f → ⊥
-    no_cycle e NoParents h = h
-    no_cycle e (NotFound n b) h = h
-    no_cycle e TooMany h = h
     no_cycle e (Cycle least) h = let c = circle_place least h in first_none ps e c.0 c.2 c.5
-    no_cycle e (SameName reader n) h = h
-    no_cycle e (SamePackage reader p one other) h = h
-    no_cycle e (OwnPackage reader p other) h = h
-    no_cycle e (ServicePackage n service) h = h
-    no_cycle e NoMemory h = h
+    no_cycle e f h = absurd h
 
     pub cycle_right : (q : ℕ) (s : Site) → slice_get w.sites q ≡ Some s → IsFirstRound Rows ps (Some q) → IsLeast fault_cmp (CycleFault w) (Cycle (site_name s))
     cycle_right q s at e =
@@ -210,15 +180,8 @@ module _ (w : Scene) (marks : List Bool) (right : AreMarks w marks) where
         record { has = (s, (members.only q s first.0 at).0, refl, rounds_shows q s at first.1); least = below first }
       where
         below : IsFirst ps q → (f : ResolveFault) → CycleFault w f → fault_cmp f (Cycle (site_name s)) ≢ Less
-        below first NoParents h l = absurd h
-        below first (NotFound n b) h l = absurd h
-        below first TooMany h l = absurd h
         below first (Cycle least) h l =
             let c = circle_place least h in
             let less : name_cmp (site_name c.1) (site_name s) ≡ Less = ap (λ (n : List ℕ). name_cmp n (site_name s)) c.4 ∙ sym (cycle_cmp least (site_name s)) ∙ l in
             first.2 c.0 c.1 s c.2 c.3 at c.5 less
-        below first (SameName reader n) h l = absurd h
-        below first (SamePackage reader p one other) h l = absurd h
-        below first (OwnPackage reader p other) h l = absurd h
-        below first (ServicePackage n service) h l = absurd h
-        below first NoMemory h l = absurd h
+        below first f h l = absurd h

@@ -1,9 +1,9 @@
 -- What the searches of a resolution found decides its answer.
-use Rattle.std.proofs.Common.{◌≡◌, ◌<◌, ◌≤◌, ◌⊎◌, ◌+◌, ℕ, zero, suc, List, [], ◌∷◌, ◌++◌, length, map, take, get_or, slice_get, inl, inr, ⊎_elim, refl, sym, ◌∙◌, ap, subst, Option, Some, None, option_to_list, arith, Err, Ok}
-use Rattle.std.proofs.lemmas.List.{map-append}
+use Rattle.std.proofs.Common.{◌≡◌, ◌<◌, ◌≤◌, ◌⊎◌, ◌+◌, ℕ, suc, List, ◌++◌, length, map, take, get_or, slice_get, inl, inr, ⊎_elim, refl, sym, ◌∙◌, ap, subst, Option, Some, None, option_to_list, arith, Err, Ok, []}
+use Rattle.std.proofs.lemmas.List.{map-append, get_or_default}
 use Rattle.jl_prim.specs.declared.declaration.Observed.{Observed}
 use Rattle.jl_config.specs.declared.fault.ResolveFault.{ResolveFault}
-use Rattle.jl_config.specs.declared.fault.ResolveFault.TheVariants.{TooMany}
+use Rattle.jl_config.specs.declared.fault.ResolveFault.TheVariants.{TooMany, NoParents}
 use Rattle.jl_config.specs.declared.site.Site.{Site}
 use Rattle.jl_config.specs.Graphs.{Graph}
 use Rattle.jl_config.specs.Located.{Asked, Scene, scene_of, id_of}
@@ -13,29 +13,24 @@ use Rattle.jl_config.specs.Refusals.{most, fault_cmp}
 use Rattle.jl_config.specs.Resolves.{Resolves, AreReads, AreJustified, IsGraphOf}
 use Rattle.jl_config.specs.Settled.{StartsAt, Settles}
 use Rattle.jl_config.proofs.Always.{IsTooMany}
-use Rattle.jl_config.proofs.Assembled.{IsKind, NoneBefore, NoParentsFault, TooManyFault, none_at_first, none_further, nothing_applies, first_refusal, too_many_first, no_parents_kind, too_many_kind, large_by_places, not_large_by_places, modules_by_places, justified_by_members}
-use Rattle.jl_config.proofs.MemberLists.{filter_map_step}
-
-any_default : (ps : List ℕ) (i a b : ℕ) → i < length ps → get_or ps i a ≡ get_or ps i b
-any_default [] i a b lt = absurd (omega arith)
-any_default (p ∷ ps) zero a b lt = refl
-any_default (p ∷ ps) (suc i) a b lt = any_default ps i a b (omega arith)
+use Rattle.jl_config.proofs.Assembled.{IsKind, TooManyFault, none_further, nothing_applies, first_refusal, too_many_first, too_many_kind, large_by_places, not_large_by_places, modules_by_places, justified_by_members}
+use Rattle.jl_config.proofs.Lists.{filter_map_step}
 
 -- one more module is copied
 pub copied_step : (w : Scene) (ps : List ℕ) (i : ℕ) (old new : List Observed) → i < length ps → old ≡ modules_at w (take i ps) → new ≡ old ++ map (λ (s : Site). s.observed) (option_to_list (slice_get w.sites (get_or ps i 0))) → new ≡ modules_at w (take (i + 1) ps)
 copied_step w ps i old new lt e f =
     let seen : Site → Observed = λ s. s.observed in
     let more : sites_at w (take i ps) ++ option_to_list (slice_get w.sites (get_or ps i 0)) ≡ sites_at w (take (i + 1) ps) =
-    filter_map_step (slice_get w.sites) ps i (get_or ps i 0) (sites_at w (take i ps)) (sites_at w (take i ps) ++ option_to_list (slice_get w.sites (get_or ps i 0))) lt (any_default ps i 0 (get_or ps i 0) lt) refl refl in
+    filter_map_step (slice_get w.sites) ps i (get_or ps i 0) (sites_at w (take i ps)) (sites_at w (take i ps) ++ option_to_list (slice_get w.sites (get_or ps i 0))) lt (get_or_default ps i 0 (get_or ps i 0) lt) refl refl in
     f ∙ ap (λ (l : List Observed). l ++ map seen (option_to_list (slice_get w.sites (get_or ps i 0)))) e
     ∙ sym (map-append seen (sites_at w (take i ps)) (option_to_list (slice_get w.sites (get_or ps i 0)))) ∙ ap (map seen) more
 
-module _ (q : Asked) (w : Scene) (same : w ≡ scene_of q) (K : Scene → ResolveFault → Type 0) (k : ℕ) (kind : IsKind q k (K (scene_of q))) (before : NoneBefore q k) (found : Option ResolveFault) (sought : IsLeastSome fault_cmp (K w) found) where
+module _ (q : Asked) (w : Scene) (same : w ≡ scene_of q) (K : Scene → ResolveFault → Type 0) (k : ℕ) (kind : IsKind q k (K (scene_of q))) (before : StartsAt q k) (found : Option ResolveFault) (sought : IsLeastSome fault_cmp (K w) found) where
   sought_here : IsLeastSome fault_cmp (K (scene_of q)) found
   sought_here = subst (λ (v : Scene). IsLeastSome fault_cmp (K v) found) same sought
 
   -- none of this kind applies either
-  pub none_next : found ≡ None → NoneBefore q (suc k)
+  pub none_next : found ≡ None → StartsAt q (suc k)
   none_next e = none_further q k (K (scene_of q)) kind before (subst (λ (o : Option ResolveFault). IsLeastSome fault_cmp (K (scene_of q)) o) e sought_here)
 
   -- the one that was found is the answer
@@ -43,8 +38,9 @@ module _ (q : Asked) (w : Scene) (same : w ≡ scene_of q) (K : Scene → Resolv
   refused f e = first_refusal q k (K (scene_of q)) kind before f (subst (λ (o : Option ResolveFault). IsLeastSome fault_cmp (K (scene_of q)) o) e sought_here)
 
 -- there is a parent
-pub after_parents : (q : Asked) → (q.parents ≡ [] → ⊥) → NoneBefore q 1
-after_parents q some = none_further q 0 (NoParentsFault q) (no_parents_kind q) (none_at_first q) (λ f h. some h.0)
+pub after_parents : (q : Asked) → (q.parents ≡ [] → ⊥) → StartsAt q 1
+after_parents q some NoParents a = absurd (some a)
+after_parents q some f a = omega arith
 
 pub few : (q : Asked) (w : Scene) (ps : List ℕ) → w ≡ scene_of q → AreMembers w ps → length ps ≤ 4096 → length q.known < 4096 → IsTooMany q → ⊥
 few q w ps same members a b = λ h.
@@ -59,7 +55,7 @@ few q w ps same members a b = λ h.
     too_many : (n : ℕ) → n < 4096 → most ≤ n → ⊥
     too_many n h k = omega arith
 
-pub after_many : (q : Asked) (w : Scene) (ps : List ℕ) → w ≡ scene_of q → AreMembers w ps → length ps ≤ 4096 → length q.known < 4096 → NoneBefore q 2 → NoneBefore q 3
+pub after_many : (q : Asked) (w : Scene) (ps : List ℕ) → w ≡ scene_of q → AreMembers w ps → length ps ≤ 4096 → length q.known < 4096 → StartsAt q 2 → StartsAt q 3
 after_many q w ps same members a b before = none_further q 2 (TooManyFault q) (too_many_kind q) before (λ f h. few q w ps same members a b h.0)
 
 pub many_members : (q : Asked) (w : Scene) (ps : List ℕ) → w ≡ scene_of q → AreMembers w ps → 4096 < length ps → IsTooMany q
@@ -84,16 +80,16 @@ module _ (q : Asked) (w : Scene) (same : w ≡ scene_of q) (ps : List ℕ) (memb
     reads = subst (λ (v : Scene). AreReads v g.reads) same reads;
   }
 
-  pub graph_resolves : NoneBefore q 8 → Resolves q (Ok g)
+  pub graph_resolves : StartsAt q 8 → Resolves q (Ok g)
   graph_resolves before = (nothing_applies q before, graph_is)
 
 -- a search for one kind, where none applies before
 module _ (K : Scene → ResolveFault → Type 0) (k : ℕ) (kind : (q : Asked) → IsKind q k (K (scene_of q))) (w : Scene) (found : Option ResolveFault) (sought : IsLeastSome fault_cmp (K w) found) where
   pub settled : (f : ResolveFault) → found ≡ Some f → (q : Asked) → w ≡ scene_of q → StartsAt q k → Resolves q (Err f)
-  settled f e q same before = refused q w same K k (kind q) (record { least = before }) found sought f e
+  settled f e q same before = refused q w same K k (kind q) before found sought f e
 
   pub goes_on : found ≡ None → (q : Asked) → w ≡ scene_of q → StartsAt q k → StartsAt q (suc k)
-  goes_on e q same before = (none_next q w same K k (kind q) (record { least = before }) found sought e).least
+  goes_on e q same before = (none_next q w same K k (kind q) before found sought e)
 
   pub settles : (q : Asked) → w ≡ scene_of q → StartsAt q k → Settles q (suc k) found
   settles q same before = by found refl
@@ -104,10 +100,10 @@ module _ (K : Scene → ResolveFault → Type 0) (k : ℕ) (kind : (q : Asked) �
 
 pub too_many_settled : (w : Scene) (ps : List ℕ) (known : ℕ) → AreMembers w ps → (4096 < length ps) ⊎ (4096 ≤ known) → (q : Asked) → w ≡ scene_of q → length q.known ≡ known → StartsAt q 2 → Resolves q (Err TooMany)
 too_many_settled w ps known members h q same long before =
-    too_many_first q (record { least = before }) (⊎_elim (λ m. many_members q w ps same members m) (λ k. many_known q (subst (λ (n : ℕ). 4096 ≤ n) (sym long) k)) h)
+    too_many_first q before (⊎_elim (λ m. many_members q w ps same members m) (λ k. many_known q (subst (λ (n : ℕ). 4096 ≤ n) (sym long) k)) h)
 
 pub few_go_on : (w : Scene) (ps : List ℕ) (known : ℕ) → AreMembers w ps → length ps ≤ 4096 → known < 4096 → (q : Asked) → w ≡ scene_of q → length q.known ≡ known → StartsAt q 2 → StartsAt q 3
-few_go_on w ps known members a b q same long before = (after_many q w ps same members a (subst (λ (n : ℕ). n < 4096) (sym long) b) (record { least = before })).least
+few_go_on w ps known members a b q same long before = (after_many q w ps same members a (subst (λ (n : ℕ). n < 4096) (sym long) b) before)
 
 -- a search that found nothing
 pub none_of : (K : Scene → ResolveFault → Type 0) (w : Scene) (found : Option ResolveFault) → IsLeastSome fault_cmp (K w) found → found ≡ None → (f : ResolveFault) → K w f → ⊥

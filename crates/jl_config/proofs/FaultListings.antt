@@ -9,11 +9,12 @@ use Rattle.jl_config.specs.Members.{Needs, Uses, IsProvidedBy, IsMember, Reads}
 use Rattle.jl_config.specs.Orders.{site_cmp}
 use Rattle.jl_config.specs.Refusals.{IsMissing, IsLarge, most, IsSameName, Exports, Gets, Holds, IsSamePackage, IsOwnPackage, Sees, IsServicePackage}
 use Rattle.jl_config.proofs.DeclaredLists.{decided_in, needed, exported, services, decided_config}
-use Rattle.jl_config.proofs.FaultOrder.{sites_total, names_exact}
+use Rattle.jl_config.proofs.FaultOrder.{sites_total}
+use Rattle.jl_config.proofs.Names.{names_exact}
 use Rattle.jl_config.proofs.Listings.{Listing, Decided, decided_both, decided_either, decided_not, decided_same, decided_name, decided_less, decided_none, decided_contains, decided_some, listing_each, listing_where, listing_same, listing_either, listing_if, listing_map, listing_items}
 use Rattle.jl_config.proofs.RisingLists.{Rising, sorted, no_longer}
 use Rattle.jl_config.proofs.Listed.{Lists}
-use Rattle.jl_config.proofs.FoundPlaces.{one_of_name}
+use Rattle.jl_config.proofs.MemberFinds.{one_of_name}
 
 -- ---- what is not there
 

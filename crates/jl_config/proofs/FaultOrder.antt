@@ -1,9 +1,9 @@
 -- The order of refusals, of modules and of reads: each is total, and where two tie they are the same.
 use Rattle.std.proofs.Common.{◌≡◌, ◌<◌, ℕ, zero, suc, List, [], ◌∷◌, refl, sym, ◌∙◌, ap, subst, Option, Some, None, Ordering, Less, Equal, Greater, nat_cmp}
 use Rattle.std.specs.Option.{option_cmp}
-use Rattle.std.specs.Ordering.{ordering_then, is_eq}
+use Rattle.std.specs.Ordering.{ordering_then}
 use Rattle.std.specs.Cmp.{IsTotalOrder}
-use Rattle.std.specs.Cmp.Lexicographic.{options_total, bytes_decides, texts_ties, nat_list_cmp_total}
+use Rattle.std.specs.Cmp.Lexicographic.{options_total, nat_list_cmp_total}
 use Rattle.std.proofs.lemmas.Cmp.{on_total, then_total, nat_cmp_total, lists_total, ranked, by_ranked}
 use Rattle.jl_prim.specs.declared.declaration.Observed.{Observed}
 use Rattle.jl_logic.specs.Order.{name_cmp, optional_cmp}
@@ -14,6 +14,8 @@ use Rattle.jl_config.specs.declared.fault.ResolveFault.TheVariants.{NoParents, N
 use Rattle.jl_config.specs.Located.{name_of, site_name}
 use Rattle.jl_config.specs.Orders.{module_cmp, site_cmp, read_cmp}
 use Rattle.jl_config.specs.Refusals.{rank, fields, fields_cmp, fault_cmp}
+use Rattle.jl_config.proofs.Names.{names_exact}
+use Rattle.jl_config.specs.MissingNames.{lack_cmp}
 
 -- ---- totality
 
@@ -25,6 +27,9 @@ optional_is (Some a) (Some b) = refl
 
 optional_total : IsTotalOrder optional_cmp
 optional_total = subst IsTotalOrder (λ i a b. optional_is a b i) (options_total nat_list_cmp_total)
+
+pub lack_total : IsTotalOrder lack_cmp
+lack_total = then_total (on_total (λ (m : List ℕ × Option (List ℕ)). m.0) nat_list_cmp_total) (on_total (λ (m : List ℕ × Option (List ℕ)). m.1) optional_total)
 
 pub fault_total : IsTotalOrder fault_cmp
 fault_total = then_total (on_total rank nat_cmp_total) (on_total fields (lists_total optional_total))
@@ -51,9 +56,6 @@ both_tie : {A : Type 0} (r s : Ordering) → ordering_then r s ≡ Equal → (r 
 both_tie Less s e k = absurd cc
 both_tie Equal s e k = k refl e
 both_tie Greater s e k = absurd cc
-
-pub names_exact : (a b : List ℕ) → name_cmp a b ≡ Equal → a ≡ b
-names_exact a b e = (bytes_decides a b).0 (texts_ties a b ∙ ap is_eq e)
 
 pub reads_exact : {A : Type 0} (r s : Read) → read_cmp r s ≡ Equal → (r.reader ≡ s.reader → r.name ≡ s.name → A) → A
 reads_exact r s e k = both_tie (name_cmp r.reader s.reader) (name_cmp r.name s.name) e (λ f g. k (names_exact r.reader s.reader f) (names_exact r.name s.name g))
@@ -110,3 +112,23 @@ pub fault_exact : (f g : ResolveFault) → fault_cmp f g ≡ Equal → f ≡ g
 fault_exact f g e =
     both_tie (nat_cmp (rank f) (rank g)) (fields_cmp (fields f) (fields g)) e
     (λ r s. sym (made_again f) ∙ (λ i. made (ranks_exact (rank f) (rank g) r i) (fields_exact (fields f) (fields g) s i)) ∙ made_again g)
+
+-- ---- refusals of one kind
+
+pub not_found_cmp : (n : List ℕ) (b : Option (List ℕ)) (m : List ℕ) (c : Option (List ℕ)) → fault_cmp (NotFound n b) (NotFound m c) ≡ lack_cmp (n, b) (m, c)
+not_found_cmp n b m c = by (name_cmp n m) (optional_cmp b c) refl refl
+  where
+    by : (r s : Ordering) → name_cmp n m ≡ r → optional_cmp b c ≡ s → fault_cmp (NotFound n b) (NotFound m c) ≡ lack_cmp (n, b) (m, c)
+    by Less s e f = rw e refl
+    by Equal Less e f = rw (e, f) refl
+    by Equal Equal e f = rw (e, f) refl
+    by Equal Greater e f = rw (e, f) refl
+    by Greater s e f = rw e refl
+
+pub cycle_cmp : (n m : List ℕ) → fault_cmp (Cycle n) (Cycle m) ≡ name_cmp n m
+cycle_cmp n m = by (name_cmp n m) refl
+  where
+    by : (r : Ordering) → name_cmp n m ≡ r → fault_cmp (Cycle n) (Cycle m) ≡ name_cmp n m
+    by Less e = rw e refl
+    by Equal e = rw e refl
+    by Greater e = rw e refl

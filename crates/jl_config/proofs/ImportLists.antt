@@ -3,7 +3,6 @@ use Rattle.std.proofs.Common.{◌≡◌, ◌≢◌, ◌<◌, ◌≤◌, ◌+◌,
 use Rattle.std.proofs.lemmas.List.{take_more, take_all, map-append}
 use Rattle.std.proofs.lemmas.Bool.{and_parts}
 use Rattle.jl_logic.specs.Order.{is_text, RisesBy}
-use Rattle.jl_logic.proofs.Rising.{contains_nothing}
 use Rattle.jl_config.specs.declared.imports.Exported.{Exported}
 use Rattle.jl_config.specs.declared.imports.Imports.{Imports}
 use Rattle.jl_config.specs.declared.readings.Reading.{Reading}
@@ -15,9 +14,8 @@ use Rattle.jl_config.specs.Refusals.{Exports}
 use Rattle.jl_config.specs.ReadRows.{name_at, IsReadingOf, AreReadings}
 use Rattle.jl_config.specs.Collected.{Among}
 use Rattle.jl_config.specs.Imported.{IsGranted, IsExportedBy, IsExportedAt, exported_cmp, IsImportOf, IsImport, AreImports}
-use Rattle.jl_config.proofs.ReadFinds.{text_same}
-use Rattle.jl_config.proofs.ReadLists.{from_map, into_map}
-use Rattle.jl_config.proofs.ReadOrders.{last_or_before, same_some}
+use Rattle.jl_config.proofs.Names.{text_is}
+use Rattle.jl_config.proofs.Lists.{into_map, from_map, same_item, last_or_before}
 use Rattle.jl_config.proofs.SameNames.{place_read, reader_name, one_first}
 
 abbrev pub reader_of_reading : Reading → ℕ
@@ -31,10 +29,6 @@ pub record AreImportsSoFar (w : Scene) (rs : List Reading) (i : ℕ) (ms : List 
   pub readers : map reader_of_imports ms ≡ map reader_of_reading (take i rs)
   pub each : (m : Imports) → Contains ms m → IsImport w m
 
-pub no_imports : (w : Scene) (rs : List Reading) (ms : List Imports) → ms ≡ [] → AreImportsSoFar w rs 0 ms
-no_imports w rs ms e = subst (AreImportsSoFar w rs 0) (sym e) (record { readers = refl; each = λ m c. contains_nothing m c })
-
--- what the reader of a reading gets
 pub one_import : (w : Scene) (r : Reading) (a : Site) (es : List Exported) → IsReadingOf w r a → RisesBy exported_cmp es
     → ((e : Exported) → Contains es e → Among (IsExportedAt w r.reader) r.read e) → ((e : Exported) → Among (IsExportedAt w r.reader) r.read e → Contains es e)
     → IsImportOf w (record { reader = r.reader; exported = es }) a
@@ -48,7 +42,7 @@ one_import w r a es h up only all =
           let s = only e c in
           let t = s.2 in
           let b = place_read w r a s.0 h s.1 in
-          let same : b.site ≡ t.0 = same_some b.site t.0 (slice_get w.sites s.0) b.at t.1 in
+          let same : b.site ≡ t.0 = same_item b.site t.0 (slice_get w.sites s.0) b.at t.1 in
           (t.0, subst (Reads w a) same b.read, subst (λ n. IsExportedBy n t.0 e) named t.3, subst (λ n. site_name t.0 ≢ n) named t.2);
       all = λ b p read exports other.
           let q = h.reads.read.all b read in
@@ -58,12 +52,12 @@ one_import w r a es h up only all =
           let q = h.reads.read.all a (inl refl) in
           let f = place_read w r a p.0 h p.1 in
           let g = place_read w r a q.0 h q.1 in
-          let fb : f.site ≡ b = same_some f.site b (slice_get w.sites p.0) f.at p.2 in
-          let ga : g.site ≡ a = same_some g.site a (slice_get w.sites q.0) g.at q.2 in
+          let fb : f.site ≡ b = same_item f.site b (slice_get w.sites p.0) f.at p.2 in
+          let ga : g.site ≡ a = same_item g.site a (slice_get w.sites q.0) g.at q.2 in
           let pb : place_of_site b.config (site_name b) w.sites ≡ Some p.0 = subst (λ (v : Site). place_of_site v.config (site_name v) w.sites ≡ Some p.0) fb f.first in
           let qa : place_of_site a.config (site_name a) w.sites ≡ Some q.0 = subst (λ (v : Site). place_of_site v.config (site_name v) w.sites ≡ Some q.0) ga g.first in
           let one : p.0 ≡ q.0 = one_first w b a p.0 q.0 pb qa same named in
-          same_some b a (slice_get w.sites q.0) (subst (λ k. slice_get w.sites k ≡ Some b) one p.2) q.2;
+          same_item b a (slice_get w.sites q.0) (subst (λ k. slice_get w.sites k ≡ Some b) one p.2) q.2;
     }
 
 pub more_imports : (w : Scene) (rs : List Reading) (i : ℕ) (r : Reading) (m : Imports) (old new : List Imports) → i < length rs → r ≡ get_or rs i r → m.reader ≡ r.reader → IsImport w m → new ≡ old ++ m ∷ []
@@ -86,7 +80,7 @@ all_imports w rs i ms le right h =
           let n = from_map reader_of_imports ms r.0.reader c in
           let s = h.each n.0 n.1 in
           let at : slice_get w.sites n.0.reader ≡ Some a = subst (λ q. slice_get w.sites q ≡ Some a) (sym n.2) r.2.here in
-          let same : s.0 ≡ a = same_some s.0 a (slice_get w.sites n.0.reader) s.1.here at in
+          let same : s.0 ≡ a = same_item s.0 a (slice_get w.sites n.0.reader) s.1.here at in
           (n.0, n.1, subst (IsImportOf w n.0) same s.1);
     }
 
@@ -100,17 +94,17 @@ exported_is_granted reader s e h = let g = h.0 in (g.0, g.1, (g.3, λ i. record 
 
 module _ (w : Scene) (reader p : ℕ) (b : Site) (at : slice_get w.sites p ≡ Some b) where
   pub own_exports_nothing : site_name b ≡ name_at w reader → (e : Exported) → IsExportedAt w reader p e → ⊥
-  own_exports_nothing same e h = let f : h.0 ≡ b = same_some h.0 b (slice_get w.sites p) h.1 at in h.2 (ap site_name f ∙ same)
+  own_exports_nothing same e h = let f : h.0 ≡ b = same_item h.0 b (slice_get w.sites p) h.1 at in h.2 (ap site_name f ∙ same)
 
   pub exported_here : site_name b ≢ name_at w reader → (e : Exported) → IsExportedBy (name_at w reader) b e → IsExportedAt w reader p e
   exported_here other e h = (b, at, other, h)
 
   pub here_exported : (e : Exported) → IsExportedAt w reader p e → IsExportedBy (name_at w reader) b e
-  here_exported e h = let f : h.0 ≡ b = same_some h.0 b (slice_get w.sites p) h.1 at in subst (λ v. IsExportedBy (name_at w reader) v e) f h.3
+  here_exported e h = let f : h.0 ≡ b = same_item h.0 b (slice_get w.sites p) h.1 at in subst (λ v. IsExportedBy (name_at w reader) v e) f h.3
 
 pub exported_exact : (x y : Exported) → (is_text x.«package» y.«package» && is_text x.exporter y.exporter) ≡ true → x ≡ y
 exported_exact x y e =
     let both = and_parts (is_text x.«package» y.«package») (is_text x.exporter y.exporter) e in
-    let named : x.«package» ≡ y.«package» = text_same x.«package» y.«package» both.0 in
-    let from : x.exporter ≡ y.exporter = text_same x.exporter y.exporter both.1 in
+    let named : x.«package» ≡ y.«package» = text_is x.«package» y.«package» both.0 in
+    let from : x.exporter ≡ y.exporter = text_is x.exporter y.exporter both.1 in
     λ i. record { «package» = named i; exporter = from i }

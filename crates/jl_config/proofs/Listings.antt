@@ -2,6 +2,7 @@
 use Rattle.std.proofs.Common.{◌≡◌, ◌⊎◌, ◌<◌, ℕ, zero, suc, List, [], ◌∷◌, ◌++◌, inl, inr, ⊎_elim, refl, sym, ap, subst, Contains, Option, Some, None, Bool, true, false, IsTrue, nat_eq, arith}
 use Rattle.std.specs.Cmp.Lexicographic.{pointwise, bytes_decides}
 use Rattle.jl_logic.proofs.Rising.{contains_head, contains_tail, contains_cases, contains_nothing}
+use Rattle.std.proofs.lemmas.List.Elements.{Contains-append_left, Contains-append_right, Contains-append_cases}
 
 -- a list of exactly what has the property
 pub record Listing {X : Type 0} (P : X → Type 0) : Type 0 where
@@ -54,6 +55,11 @@ pub decided_none : {X : Type 0} (o : Option X) → Decided (o ≡ None)
 decided_none None = inl refl
 decided_none (Some x) = inr (λ e. absurd cc)
 
+pub decided_marked : (o : Option Bool) → Decided (o ≡ Some true)
+decided_marked None = inr (λ e. absurd cc)
+decided_marked (Some true) = inl refl
+decided_marked (Some false) = inr (λ e. absurd cc)
+
 pub decided_contains : (names : List (List ℕ)) (name : List ℕ) → Decided (Contains names name)
 decided_contains [] name = inr (λ c. contains_nothing name c)
 decided_contains (n ∷ names) name =
@@ -61,21 +67,6 @@ decided_contains (n ∷ names) name =
     (λ s. ⊎_elim (λ e. subst (Contains (n ∷ names)) e (contains_head n names)) (λ c. contains_tail n name names c) s)
     (λ c. contains_cases n name names c)
     (decided_either (n ≡ name) (Contains names name) (decided_name n name) (decided_contains names name))
-
--- ---- lists put together
-
-module _ {X : Type 0} where
-  pub in_front : (xs ys : List X) (x : X) → Contains xs x → Contains (xs ++ ys) x
-  in_front [] ys x c = contains_nothing x c
-  in_front (w ∷ xs) ys x c = ⊎_elim (λ e. subst (Contains (w ∷ (xs ++ ys))) e (contains_head w (xs ++ ys))) (λ k. contains_tail w x (xs ++ ys) (in_front xs ys x k)) (contains_cases w x xs c)
-
-  pub in_back : (xs ys : List X) (x : X) → Contains ys x → Contains (xs ++ ys) x
-  in_back [] ys x c = c
-  in_back (w ∷ xs) ys x c = contains_tail w x (xs ++ ys) (in_back xs ys x c)
-
-  pub in_one : (xs ys : List X) (x : X) → Contains (xs ++ ys) x → Contains xs x ⊎ Contains ys x
-  in_one [] ys x c = inr c
-  in_one (w ∷ xs) ys x c = ⊎_elim (λ e. inl (subst (Contains (w ∷ xs)) e (contains_head w xs))) (λ k. ⊎_elim (λ m. inl (contains_tail w x xs m)) inr (in_one xs ys x k)) (contains_cases w x (xs ++ ys) c)
 
 -- ---- listings
 
@@ -89,8 +80,8 @@ module _ {X : Type 0} where
   pub listing_either : (P Q : X → Type 0) → Listing P → Listing Q → Listing (λ x. P x ⊎ Q x)
   listing_either P Q l m = record {
     items = l.items ++ m.items;
-    only = λ x c. ⊎_elim (λ k. inl (l.only x k)) (λ k. inr (m.only x k)) (in_one l.items m.items x c);
-    all = λ x s. ⊎_elim (λ p. in_front l.items m.items x (l.all x p)) (λ k. in_back l.items m.items x (m.all x k)) s;
+    only = λ x c. ⊎_elim (λ k. inl (l.only x k)) (λ k. inr (m.only x k)) (Contains-append_cases l.items m.items x c);
+    all = λ x s. ⊎_elim (λ p. Contains-append_left l.items m.items x (l.all x p)) (λ k. Contains-append_right l.items m.items x (m.all x k)) s;
   }
 
   -- one item, where the condition holds
@@ -118,10 +109,10 @@ module _ {X Y : Type 0} (Q : X → Y → Type 0) where
       let tail = each_item xs (λ z c. k z (contains_tail x z xs c)) in
       record {
         items = head.items ++ tail.items;
-        only = λ y c. ⊎_elim (λ h. (x, contains_head x xs, head.only y h)) (λ t. let r = tail.only y t in (r.0, contains_tail x r.0 xs r.1, r.2)) (in_one head.items tail.items y c);
+        only = λ y c. ⊎_elim (λ h. (x, contains_head x xs, head.only y h)) (λ t. let r = tail.only y t in (r.0, contains_tail x r.0 xs r.1, r.2)) (Contains-append_cases head.items tail.items y c);
         all = λ y r. ⊎_elim
-            (λ e. in_front head.items tail.items y (head.all y (subst (λ z. Q z y) (sym e) r.2)))
-            (λ c. in_back head.items tail.items y (tail.all y (r.0, c, r.2)))
+            (λ e. Contains-append_left head.items tail.items y (head.all y (subst (λ z. Q z y) (sym e) r.2)))
+            (λ c. Contains-append_right head.items tail.items y (tail.all y (r.0, c, r.2)))
             (contains_cases x r.0 xs r.1);
       }
 

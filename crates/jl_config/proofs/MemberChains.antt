@@ -2,33 +2,23 @@
 use Rattle.std.proofs.Common.{◌≡◌, ◌<◌, ◌+◌, ◌⊎◌, ℕ, zero, suc, List, [], ◌∷◌, length, slice_get, inl, inr, ⊎_elim, refl, sym, ◌∙◌, ap, subst, Contains, All, Option, Some, None, Bool, true, false, true≢false, cond, ◌&&◌, filter_map, flat_map, arith}
 use Rattle.std.proofs.lemmas.List.{length-map}
 use Rattle.std.proofs.lemmas.Option.{slice_get_within}
-use Rattle.std.proofs.lemmas.List.Elements.{All-from_recursion}
+use Rattle.std.proofs.lemmas.List.Elements.{Contains-append_left, Contains-append_right, Contains-append_cases}
 use Rattle.jl_prim.specs.declared.declaration.Requires.{Requires}
 use Rattle.jl_prim.specs.declared.declaration.Provides.{Provides}
 use Rattle.jl_closure.specs.Reached.{Chain, Follows, IsReached, AreMarksOf}
 use Rattle.jl_logic.specs.Order.{is_text}
-use Rattle.jl_logic.proofs.Rising.{contains_head, contains_tail, contains_cases, contains_nothing, each_from_members}
+use Rattle.jl_logic.proofs.Rising.{contains_head, contains_tail, contains_cases, contains_nothing}
 use Rattle.jl_config.specs.declared.site.Site.{Site}
 use Rattle.jl_config.specs.declared.provisions.Provision.{Provision}
 use Rattle.jl_config.specs.Located.{Scene, site_name, is_here}
 use Rattle.jl_config.specs.Members.{is_followed, Needs, Uses, IsProvidedBy, IsFound, Enumerated, IsAbove, IsUsed, IsCaused, IsJustified, IsBound, IsMemberBy, IsMember}
 use Rattle.jl_config.specs.MemberRows.{found_place, needed_place, needed_places, is_place, provided_by, provisions_of, provisions_from, offers, for_service, providers, member_row, member_rows, above_from, member_starts, cleared}
 use Rattle.jl_config.specs.Places.{place_named, AreMarks}
-use Rattle.jl_config.proofs.MemberLists.{into_filter_map, from_filter_map, row_at, contains_left, contains_right, contains_either, contains_at, place_in, into_map, from_map}
-use Rattle.jl_config.proofs.MemberFinds.{same_item, FoundAt, found_at_within, found_where, found_shows, found_has}
-use Rattle.jl_config.proofs.MemberOrder.{text_is, text_itself}
-
-module _ {X Y : Type 0} (f : X → List Y) where
-  pub into_flat : (xs : List X) (x : X) (y : Y) → Contains xs x → Contains (f x) y → Contains (flat_map f xs) y
-  into_flat [] x y c d = contains_nothing x c
-  into_flat (w ∷ xs) x y c d = ⊎_elim (λ e. contains_left (f w) (flat_map f xs) y (subst (λ v. Contains (f v) y) (sym e) d)) (λ k. contains_right (f w) (flat_map f xs) y (into_flat xs x y k d)) (contains_cases w x xs c)
-
-  pub from_flat : (xs : List X) (y : Y) → Contains (flat_map f xs) y → (x : X) × Contains xs x × Contains (f x) y
-  from_flat [] y c = contains_nothing y c
-  from_flat (w ∷ xs) y c = ⊎_elim (λ k. (w, contains_head w xs, k)) (λ k. let r = from_flat xs y k in (r.0, contains_tail w r.0 xs r.1, r.2)) (contains_either (f w) (flat_map f xs) y c)
-
-pub all_of : {X : Type 0} (P : X → Type 0) (xs : List X) → ((x : X) → Contains xs x → P x) → All P xs
-all_of P xs h = All-from_recursion P xs (each_from_members P xs h)
+use Rattle.jl_config.proofs.Lists.{into_filter_map, from_filter_map, contains_at, place_in, into_map, from_map, row_at, same_item, all_of, into_flat_map, from_flat_map}
+use Rattle.jl_config.proofs.MemberFinds.{FoundAt, found_where, found_shows, found_has}
+use Rattle.jl_config.proofs.Names.{text_is, text_itself}
+use Rattle.std.proofs.lemmas.Bool.{and_parts}
+use Rattle.jl_closure.proofs.Always.{marks_exist}
 
 is_place_so : (p : ℕ) (o : Option ℕ) → is_place p o ≡ true → o ≡ Some p
 is_place_so p None e = absurd cc
@@ -46,7 +36,7 @@ Shown w ss p v = (s : Site) × (k : ℕ) × (slice_get ss k ≡ Some s) × (p + 
 
 provisions_show : (w : Scene) (ss : List Site) (p : ℕ) (v : Provision) → Contains (provisions_from w p ss) v → Shown w ss p v
 provisions_show w [] p v c = contains_nothing v c
-provisions_show w (s ∷ ss) p v c = ⊎_elim (λ k. by (is_place p (found_place w (site_name s))) refl k) (λ k. later (provisions_show w ss (p + 1) v k)) (contains_either (provisions_of w p s) (provisions_from w (p + 1) ss) v c)
+provisions_show w (s ∷ ss) p v c = ⊎_elim (λ k. by (is_place p (found_place w (site_name s))) refl k) (λ k. later (provisions_show w ss (p + 1) v k)) (Contains-append_cases (provisions_of w p s) (provisions_from w (p + 1) ss) v c)
   where
     later : Shown w ss (p + 1) v → Shown w (s ∷ ss) p v
     later r = (r.0, suc r.1, r.2, omega (arith, r.3), r.4, r.5)
@@ -68,11 +58,11 @@ provisions_have w (t ∷ ss) p zero s e at f c =
     let here : is_place p (found_place w (site_name t)) ≡ true = subst (λ (k : ℕ). is_place k (found_place w (site_name t)) ≡ true) z (subst (λ (u : Site). is_place (p + 0) (found_place w (site_name u)) ≡ true) (sym same) f) in
     let there : Contains (provided_by p t.observed.declaration.provides) (record { service = e.service; place = p }) = into_map (λ (e : Provides). record { service = e.service; place = p }) t.observed.declaration.provides e (subst (λ (u : Site). Contains u.observed.declaration.provides e) (sym same) c) in
     let own : Contains (provisions_of w p t) (record { service = e.service; place = p }) = subst (λ (b : Bool). Contains (cond b (provided_by p t.observed.declaration.provides) []) (record { service = e.service; place = p })) (sym here) there in
-    contains_left (provisions_of w p t) (provisions_from w (p + 1) ss) (record { service = e.service; place = p + 0 }) (subst (λ (k : ℕ). Contains (provisions_of w p t) (record { service = e.service; place = k })) (sym z) own)
+    Contains-append_left (provisions_of w p t) (provisions_from w (p + 1) ss) (record { service = e.service; place = p + 0 }) (subst (λ (k : ℕ). Contains (provisions_of w p t) (record { service = e.service; place = k })) (sym z) own)
 provisions_have w (t ∷ ss) p (suc k) s e at f c =
     let z : p + 1 + k ≡ p + suc k = omega arith in
     let more : Contains (provisions_from w (p + 1) ss) (record { service = e.service; place = p + 1 + k }) = provisions_have w ss (p + 1) k s e at (subst (λ (k : ℕ). is_place k (found_place w (site_name s)) ≡ true) (sym z) f) c in
-    contains_right (provisions_of w p t) (provisions_from w (p + 1) ss) (record { service = e.service; place = p + suc k }) (subst (λ (k : ℕ). Contains (provisions_from w (p + 1) ss) (record { service = e.service; place = k })) z more)
+    Contains-append_right (provisions_of w p t) (provisions_from w (p + 1) ss) (record { service = e.service; place = p + suc k }) (subst (λ (k : ℕ). Contains (provisions_from w (p + 1) ss) (record { service = e.service; place = k })) z more)
 
 -- the module at a place serves one that uses a service
 abbrev pub Serves : Scene → Site → ℕ → Type 0
@@ -139,7 +129,7 @@ module _ (w : Scene) where
 
   served_shows : (s : Site) (p : ℕ) → Contains (flat_map (providers (offers w)) s.observed.declaration.uses) p → (w.binds ≡ true) × Serves w s p
   served_shows s p c =
-      let r = from_flat (providers (offers w)) s.observed.declaration.uses p c in
+      let r = from_flat_map (providers (offers w)) s.observed.declaration.uses p c in
       let v = from_filter_map (for_service r.0) (offers w) p r.2 in
       let so = for_service_so r.0 v.0 p v.2 in
       let o = offers_show v.0 v.1 in
@@ -153,20 +143,20 @@ module _ (w : Scene) where
       let c : Contains (offers w) v = offers_have p h.2.0 e b h.2.1 h.2.2.1 in
       let same : is_text e.service service ≡ true = ap (λ (n : List ℕ). is_text n service) h.2.2.2 ∙ text_itself service in
       let at : for_service service v ≡ Some p = ap (λ (b : Bool). cond b (Some p) None) same in
-      into_flat (providers (offers w)) s.observed.declaration.uses service p h.1 (into_filter_map (for_service service) (offers w) v p c at)
+      into_flat_map (providers (offers w)) s.observed.declaration.uses service p h.1 (into_filter_map (for_service service) (offers w) v p c at)
 
   abbrev row : Site → List ℕ
   row = member_row w (providers (offers w))
 
   in_row_shows : (s : Site) (p : ℕ) → Contains (row s) p → Brings w s p
   in_row_shows s p c =
-      ⊎_elim (λ k. inl (needed_shows s p k)) (λ k. inr (served_shows s p k)) (contains_either (needed_places w s) (flat_map (providers (offers w)) s.observed.declaration.uses) p c)
+      ⊎_elim (λ k. inl (needed_shows s p k)) (λ k. inr (served_shows s p k)) (Contains-append_cases (needed_places w s) (flat_map (providers (offers w)) s.observed.declaration.uses) p c)
 
   in_row_has : (s : Site) (p : ℕ) → Brings w s p → Contains (row s) p
   in_row_has s p h =
       ⊎_elim
-      (λ k. contains_left (needed_places w s) (flat_map (providers (offers w)) s.observed.declaration.uses) p (needed_has s k.1.0 p k.0 k.1.1 k.1.2))
-      (λ k. contains_right (needed_places w s) (flat_map (providers (offers w)) s.observed.declaration.uses) p (served_has s p k.0 k.1))
+      (λ k. Contains-append_left (needed_places w s) (flat_map (providers (offers w)) s.observed.declaration.uses) p (needed_has s k.1.0 p k.0 k.1.1 k.1.2))
+      (λ k. Contains-append_right (needed_places w s) (flat_map (providers (offers w)) s.observed.declaration.uses) p (served_has s p k.0 k.1))
       h
 
   pub follows_shows : (q p : ℕ) (s : Site) → slice_get w.sites q ≡ Some s → Follows (member_rows w) q p → Brings w s p
@@ -175,17 +165,20 @@ module _ (w : Scene) where
   pub follows_has : (q p : ℕ) (s : Site) → slice_get w.sites q ≡ Some s → Brings w s p → Follows (member_rows w) q p
   follows_has q p s at h = subst (λ (l : List ℕ). Contains l p) (sym (row_at row w.sites q s [] at)) (in_row_has s p h)
 
-  brought_within : (s : Site) (p : ℕ) → Brings w s p → p < length w.sites
-  brought_within s p h = ⊎_elim (λ k. found_at_within w p k.1.0 k.1.1) (λ k. found_at_within w p k.1.2.0 k.1.2.1) h
-
   pub rows_long : length (member_rows w) ≡ length w.sites
   rows_long = length-map w.sites row
 
-  pub rows_within : All (λ r. All (λ p. p < length w.sites) r) (member_rows w)
+  in_rows : (s : Site) (p : ℕ) → slice_get w.sites p ≡ Some s → p < length (member_rows w)
+  in_rows s p at = subst (λ (n : ℕ). p < n) (sym rows_long) (slice_get_within w.sites p s at)
+
+  brought_within : (s : Site) (p : ℕ) → Brings w s p → p < length (member_rows w)
+  brought_within s p h = ⊎_elim (λ k. let f : FoundAt w p k.1.0 = k.1.1 in in_rows k.1.0 p f.at) (λ k. let f : FoundAt w p k.1.2.0 = k.1.2.1 in in_rows k.1.2.0 p f.at) h
+
+  pub rows_within : All (λ r. All (λ p. p < length (member_rows w)) r) (member_rows w)
   rows_within =
-      all_of (λ r. All (λ p. p < length w.sites) r) (member_rows w) (λ r c.
+      all_of (λ r. All (λ p. p < length (member_rows w)) r) (member_rows w) (λ r c.
       let s = from_map row w.sites r c in
-      all_of (λ p. p < length w.sites) r (λ p k. brought_within s.0 p (in_row_shows s.0 p (subst (λ (l : List ℕ). Contains l p) (sym s.2) k))))
+      all_of (λ p. p < length (member_rows w)) r (λ p k. brought_within s.0 p (in_row_shows s.0 p (subst (λ (l : List ℕ). Contains l p) (sym s.2) k))))
 
   -- ---- starts
 
@@ -236,7 +229,7 @@ module _ (w : Scene) where
       let f = found_shows w r.0 p r.2 in
       inl (f.0, f.1, subst (Contains w.roots) (sym f.2) r.1))
       (λ k. by w.binds refl k)
-      (contains_either root_starts (above_starts w.binds) p c)
+      (Contains-append_cases root_starts (above_starts w.binds) p c)
     where
       by : (b : Bool) → w.binds ≡ b → Contains (above_starts b) p → Begins p
       by true e k =
@@ -248,15 +241,15 @@ module _ (w : Scene) where
   pub start_has : (p : ℕ) → Begins p → Contains (member_starts w) p
   start_has p h =
       ⊎_elim
-      (λ k. contains_left root_starts (above_starts w.binds) p (into_filter_map (found_place w) w.roots (site_name k.0) p k.2 (found_has w p k.0 k.1)))
+      (λ k. Contains-append_left root_starts (above_starts w.binds) p (into_filter_map (found_place w) w.roots (site_name k.0) p k.2 (found_has w p k.0 k.1)))
       (λ k.
       let z : 0 + p ≡ p = omega arith in
       let there : Contains (above_from w 0 w.sites) p = subst (λ (k : ℕ). Contains (above_from w 0 w.sites) k) z (above_has w.sites 0 p k.1.0 k.1.1 k.1.2) in
-      contains_right root_starts (above_starts w.binds) p (subst (λ (b : Bool). Contains (above_starts b) p) (sym k.0) there))
+      Contains-append_right root_starts (above_starts w.binds) p (subst (λ (b : Bool). Contains (above_starts b) p) (sym k.0) there))
       h
 
-  pub starts_within : All (λ p. p < length w.sites) (member_starts w)
-  starts_within = all_of (λ p. p < length w.sites) (member_starts w) (λ p c. ⊎_elim (λ k. found_at_within w p k.0 k.1) (λ k. slice_get_within w.sites p k.1.0 k.1.1) (start_shows p c))
+  pub starts_within : All (λ p. p < length (member_rows w)) (member_starts w)
+  starts_within = all_of (λ p. p < length (member_rows w)) (member_starts w) (λ p c. ⊎_elim (λ k. let f : FoundAt w p k.0 = k.1 in in_rows k.0 p f.at) (λ k. in_rows k.1.0 p k.1.1) (start_shows p c))
 
   -- ---- chains
 
@@ -400,17 +393,10 @@ module _ (w : Scene) where
           let h : IsMemberBy false w s = subst (λ (b : Bool). IsMemberBy b w s) e m in
           enumerated_reached h.0 s h.1
 
-  pub member_found : (s : Site) → IsMember w s → IsFound w s
-  member_found s m = let r = member_reached s m in let f : FoundAt w r.0 s = r.1 in f.found
-
   cleared_long : (ss : List Site) (ms : List Bool) → length ms ≡ length ss → length (cleared w ss ms) ≡ length ss
   cleared_long [] ms e = refl
   cleared_long (s ∷ ss) [] e = absurd (omega arith)
   cleared_long (s ∷ ss) (m ∷ ms) e = omega (arith, cleared_long ss ms (omega arith))
-
-  both_set : (a b : Bool) → (a && b) ≡ true → (a ≡ true) × (b ≡ true)
-  both_set true b e = (refl, e)
-  both_set false b e = absurd cc
 
   cleared_shows : (ss : List Site) (ms : List Bool) (p : ℕ) (s : Site) → slice_get ss p ≡ Some s → slice_get (cleared w ss ms) p ≡ Some true → (slice_get ms p ≡ Some true) × (is_here w s ≡ true)
   cleared_shows [] ms p s at e = absurd cc
@@ -418,7 +404,7 @@ module _ (w : Scene) where
   cleared_shows (t ∷ ss) (m ∷ ms) zero s at e =
       let same : t ≡ s = cc in
       let set : (m && is_here w t) ≡ true = cc in
-      let r = both_set m (is_here w t) set in
+      let r = and_parts m (is_here w t) set in
       (ap Some r.0, subst (λ (u : Site). is_here w u ≡ true) same r.1)
   cleared_shows (t ∷ ss) (m ∷ ms) (suc p) s at e = cleared_shows ss ms p s at e
 
@@ -449,3 +435,9 @@ module _ (w : Scene) where
         let same : r.0 ≡ p = same_item r.0 p (place_named (site_name s) w.sites) f.first first in
         cleared_has w.sites raw p s at (subst (λ (k : ℕ). slice_get raw k ≡ Some true) same (marks.all r.0 r.2)) f.found.by_finder;
   })
+
+-- the marks of the set exist
+pub members_exist : (w : Scene) → (marks : List Bool) × AreMarks w marks
+members_exist w =
+    let raw = marks_exist (member_rows w) (member_starts w) (rows_within w) (starts_within w) in
+    (cleared w w.sites raw.0, marks_right w raw.0 (cleared w w.sites raw.0) raw.1 refl)

@@ -1,9 +1,9 @@
 -- Names with places, in name order: a search, and one more of them.
 use Rattle.std.proofs.Common.{◌≡◌, ◌<◌, ◌≤◌, ℕ, zero, suc, List, [], ◌∷◌, ◌++◌, length, get_or, take, drop, refl, sym, ◌∙◌, ap, subst, Option, Some, None, Bool, true, false, cond, Less, Equal, Greater, Result, Ok, Err, insert, arith, add-one}
 use Rattle.std.specs.List.{AllByRecursion, AllWithin}
-use Rattle.std.specs.Ordering.{ordering_reverse, is_eq, is_lt}
+use Rattle.std.specs.Ordering.{ordering_reverse, is_lt}
 use Rattle.std.specs.Cmp.{IsTotalOrder}
-use Rattle.std.specs.Cmp.Lexicographic.{bytes_decides, texts_ties, nat_list_cmp_total}
+use Rattle.std.specs.Cmp.Lexicographic.{nat_list_cmp_total}
 use Rattle.std.specs.List.Sorted.{IsSortedBy, IsBinarySearchResult, IsPartitionPoint, IsSearchInRange}
 use Rattle.std.proofs.lemmas.Cmp.{on_total}
 use Rattle.std.proofs.lemmas.List.{take-append-drop}
@@ -14,30 +14,13 @@ use Rattle.jl_logic.proofs.Rising.{rises_between}
 use Rattle.jl_config.specs.Placed.{placed_cmp, place_in, IsSought}
 use Rattle.jl_config.specs.Tables.{or_at}
 use Rattle.jl_config.specs.declared.placed.Placed.{Placed}
+use Rattle.jl_config.proofs.Names.{text_is, greater_other, tied_text, greater_back}
 
 abbrev pub label : Placed → List ℕ
 label x = x.name
 
 pub placed_total : IsTotalOrder placed_cmp
 placed_total = on_total label nat_list_cmp_total
-
-pub greater_other : (a b : List ℕ) → name_cmp a b ≡ Greater → is_text a b ≡ false
-greater_other a b e = texts_ties a b ∙ ap is_eq e
-
-pub less_other : (a b : List ℕ) → name_cmp a b ≡ Less → is_text a b ≡ false
-less_other a b e = texts_ties a b ∙ ap is_eq e
-
-tied_text : (a b : List ℕ) → name_cmp a b ≡ Equal → is_text a b ≡ true
-tied_text a b e = texts_ties a b ∙ ap is_eq e
-
-pub text_is : (a b : List ℕ) → is_text a b ≡ true → a ≡ b
-text_is a b e = (bytes_decides a b).0 e
-
-pub text_itself : (a : List ℕ) → is_text a a ≡ true
-text_itself a = (bytes_decides a a).1 refl
-
-greater_back : (a b : List ℕ) → name_cmp a b ≡ Greater → name_cmp b a ≡ Less
-greater_back a b e = nat_list_cmp_total.antisymm b a ∙ ap ordering_reverse e
 
 -- one with an equal name is there
 sought : (xs : List Placed) (p : ℕ) (name : List ℕ) → p < length xs → ((d : Placed) → name_cmp (label (get_or xs p d)) name ≡ Equal) → (place : ℕ) × (place_in name xs ≡ Some place)

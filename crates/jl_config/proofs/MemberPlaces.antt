@@ -10,17 +10,14 @@ use Rattle.jl_config.specs.Located.{Scene, site_name}
 use Rattle.jl_config.specs.Orders.{site_cmp}
 use Rattle.jl_config.specs.Placed.{placed_cmp, place_in, marked_place}
 use Rattle.jl_config.specs.Places.{place_named, AreMarks, AreMembers, sites_at}
-use Rattle.jl_config.proofs.MemberLists.{into_map, from_map}
-use Rattle.jl_config.proofs.MemberFinds.{same_item, FoundAt}
-use Rattle.jl_config.proofs.MemberChains.{all_of, member_reached}
-use Rattle.jl_config.proofs.MemberOrder.{label, text_is, text_itself, less_other}
+use Rattle.jl_config.proofs.Lists.{into_map, from_map, all_of, same_item}
+use Rattle.jl_config.proofs.MemberFinds.{FoundAt, found_where, member_found}
+use Rattle.jl_config.proofs.MemberOrder.{label}
+use Rattle.jl_config.proofs.Names.{text_is, text_itself, less_other}
+use Rattle.std.proofs.lemmas.Bool.{and_parts}
 
 abbrev Marked : List ℕ → ℕ → List Site → List Bool → ℕ → Type 0
 Marked q p ss ms v = (k : ℕ) × (s : Site) × (slice_get ss k ≡ Some s) × (slice_get ms k ≡ Some true) × (site_name s ≡ q) × (p + k ≡ v)
-
-both_so : (a b : Bool) → (a && b) ≡ true → (a ≡ true) × (b ≡ true)
-both_so true b e = (refl, e)
-both_so false b e = absurd cc
 
 marked_shows : (q : List ℕ) (p : ℕ) (ss : List Site) (ms : List Bool) (v : ℕ) → marked_place q p ss ms ≡ Some v → Marked q p ss ms v
 marked_shows q p [] ms v e = absurd cc
@@ -29,7 +26,7 @@ marked_shows q p (s ∷ ss) (m ∷ ms) v e = by (marked_shows q (p + 1) ss ms v)
   where
     by : (marked_place q (p + 1) ss ms ≡ Some v → Marked q (p + 1) ss ms v) → (b : Bool) → (m && is_text (site_name s) q) ≡ b → cond b (Some p) (marked_place q (p + 1) ss ms) ≡ Some v → Marked q p (s ∷ ss) (m ∷ ms) v
     by more true f g =
-        let both = both_so m (is_text (site_name s) q) f in
+        let both = and_parts m (is_text (site_name s) q) f in
         let at : p ≡ v = cc in
         (0, s, refl, ap Some both.0, text_is (site_name s) q both.1, omega (arith, at))
     by more false f g = let r = more g in (suc r.0, r.1, r.2, r.3, r.4, omega (arith, r.5))
@@ -106,7 +103,7 @@ module _ (w : Scene) (marks : List Bool) (xs : List Placed) (right : AreMarks w 
         let t = stands r.0 r.1 in
         right.only p s at (subst (λ (n : ℕ). slice_get marks n ≡ Some true) r.2 t.2);
     all = λ s m.
-        let r = member_reached w s m in
+        let r = found_where w s (member_found w s m) in
         let f : FoundAt w r.0 s = r.1 in
         let mark : slice_get marks r.0 ≡ Some true = right.all r.0 s f.at m f.first in
         let v = marked_has (site_name s) 0 w.sites marks r.0 s f.at mark refl in

@@ -1,14 +1,14 @@
 -- The least of a list, one after the other, and what is missing.
 use Rattle.std.proofs.Common.{◌≡◌, ◌≢◌, ◌<◌, ◌+◌, ℕ, List, [], ◌∷◌, ◌++◌, length, take, get_or, ⊎_elim, refl, sym, ◌∙◌, ap, ap₂, subst, Contains, Option, Some, None, Bool, true, false, cond, filter_map, flat_map, option_to_list, Ordering, Less, Equal, Greater, is_lt, append_assoc}
-use Rattle.std.specs.Ordering.{ordering_reverse}
 use Rattle.std.proofs.lemmas.List.{take_more, append-nil}
 use Rattle.std.proofs.lemmas.Grind.{flat_map-append}
 use Rattle.jl_config.specs.Located.{Scene}
 use Rattle.jl_config.specs.MissingNames.{lesser, least_from, lack_cmp, root_missing, missing_at}
 use Rattle.jl_logic.specs.Order.{IsLeast}
-use Rattle.jl_logic.proofs.Rising.{contains_head, contains_tail, contains_cases, contains_nothing, apart_from_total}
-use Rattle.jl_config.proofs.MemberLists.{filter_map_step}
-use Rattle.jl_config.proofs.FaultOrders.{lack_total}
+use Rattle.jl_logic.proofs.Rising.{contains_head, contains_tail, contains_cases, contains_nothing}
+use Rattle.jl_config.proofs.Lists.{filter_map_step}
+use Rattle.jl_config.proofs.FaultOrder.{lack_total}
+use Rattle.jl_config.proofs.RisingLists.{not_below_itself, less_through}
 
 pub least_append : (least : Option (List ℕ × Option (List ℕ))) (xs ys : List (List ℕ × Option (List ℕ))) → least_from least (xs ++ ys) ≡ least_from (least_from least xs) ys
 least_append least [] ys = refl
@@ -37,13 +37,6 @@ least_more w ps i p old new lt is e f =
 
 -- ---- the least of a list
 
-less_through : (a b m : List ℕ × Option (List ℕ)) → (r : Ordering) → lack_cmp b a ≡ r → (r ≢ Less) → lack_cmp b m ≡ Less → lack_cmp a m ≡ Less
-less_through a b m Less e n h = absurd (n refl)
-less_through a b m Equal e n h = sym (lack_total.congr b a m e) ∙ h
-less_through a b m Greater e n h =
-    let back : lack_cmp a b ≡ Less = lack_total.antisymm a b ∙ ap ordering_reverse e in
-    lack_total.trans a b m back h
-
 not_less : (o : Ordering) → is_lt o ≡ false → o ≢ Less
 not_less Less e f = absurd cc
 not_less Equal e f = absurd cc
@@ -59,11 +52,8 @@ least_some a [] m e =
     let same : a ≡ m = cc in
     subst (IsLeast lack_cmp (Contains (a ∷ []))) same (record {
       has = contains_head a [];
-      least = λ y c l. ⊎_elim (λ f. itself a (subst (λ v. lack_cmp v a ≡ Less) (sym f) l)) (λ k. contains_nothing y k) (contains_cases a y [] c);
+      least = λ y c l. ⊎_elim (λ f. not_below_itself lack_cmp lack_total a (subst (λ v. lack_cmp v a ≡ Less) (sym f) l)) (λ k. contains_nothing y k) (contains_cases a y [] c);
     })
-  where
-    itself : (v : List ℕ × Option (List ℕ)) → lack_cmp v v ≡ Less → ⊥
-    itself v l = apart_from_total lack_cmp lack_total v v l l
 least_some a (x ∷ xs) m e = by (is_lt (lack_cmp x a)) refl (λ f. least_some x xs m f) (λ f. least_some a xs m f) e
   where
     by : (b : Bool) → is_lt (lack_cmp x a) ≡ b → (least_from (Some x) xs ≡ Some m → IsLeast lack_cmp (Contains (x ∷ xs)) m) → (least_from (Some a) xs ≡ Some m → IsLeast lack_cmp (Contains (a ∷ xs)) m) → least_from (cond b (Some x) (Some a)) xs ≡ Some m → IsLeast lack_cmp (Contains (a ∷ x ∷ xs)) m
@@ -84,7 +74,7 @@ least_some a (x ∷ xs) m e = by (is_lt (lack_cmp x a)) refl (λ f. least_some x
           least = λ y c l. ⊎_elim
               (λ e. w.least y (subst (Contains (a ∷ xs)) e (contains_head a xs)) l)
               (λ d. ⊎_elim
-              (λ e. w.least a (contains_head a xs) (less_through a x m (lack_cmp x a) refl (not_less (lack_cmp x a) t) (subst (λ v. lack_cmp v m ≡ Less) (sym e) l)))
+              (λ e. w.least a (contains_head a xs) (less_through lack_cmp lack_total a x m (not_less (lack_cmp x a) t) (subst (λ v. lack_cmp v m ≡ Less) (sym e) l)))
               (λ z. w.least y (contains_tail a y xs z) l)
               (contains_cases x y xs d))
               (contains_cases a y (x ∷ xs) c);

@@ -6,17 +6,17 @@ use Rattle.jl_logic.specs.Order.{IsLeast}
 use Rattle.jl_logic.proofs.Rising.{contains_nothing}
 use Rattle.jl_config.specs.declared.site.Site.{Site}
 use Rattle.jl_config.specs.declared.fault.ResolveFault.{ResolveFault}
-use Rattle.jl_config.specs.declared.fault.ResolveFault.TheVariants.{NoParents, NotFound, TooMany, Cycle, SameName, SamePackage, OwnPackage, ServicePackage, NoMemory}
+use Rattle.jl_config.specs.declared.fault.ResolveFault.TheVariants.{NotFound}
 use Rattle.jl_config.specs.Located.{Scene, site_name, located}
 use Rattle.jl_config.specs.Members.{is_followed}
 use Rattle.jl_config.specs.MissingNames.{least_from, lack_cmp, root_missing, entry_missing, missing_of, missing_at, all_missing}
 use Rattle.jl_config.specs.Places.{place_named, AreMembers, MissingFault}
 use Rattle.jl_config.specs.Refusals.{IsMissing, fault_cmp}
 use Rattle.jl_config.proofs.MemberFinds.{unplaced, unfound}
-use Rattle.jl_config.proofs.MemberLists.{into_filter_map, from_filter_map, contains_left, contains_right, contains_either}
-use Rattle.jl_config.proofs.MemberChains.{into_flat, from_flat}
+use Rattle.std.proofs.lemmas.List.Elements.{Contains-append_left, Contains-append_right, Contains-append_cases}
+use Rattle.jl_config.proofs.Lists.{into_filter_map, from_filter_map, into_flat_map, from_flat_map}
 use Rattle.jl_config.proofs.MissingLeasts.{least_of_list, least_of_none}
-use Rattle.jl_config.proofs.FaultOrders.{not_found_cmp}
+use Rattle.jl_config.proofs.FaultOrder.{not_found_cmp}
 
 entry_shows : (w : Scene) (by : List ℕ) (r : Requires) (m : List ℕ × Option (List ℕ)) → entry_missing w by r ≡ Some m → IsTrue (is_followed r) × (place_named r.name w.sites ≡ None) × ((r.name, Some by) ≡ m)
 entry_shows w by r m e = cases (is_followed r) (place_named r.name w.sites) refl refl e
@@ -55,16 +55,16 @@ module _ (w : Scene) (ps : List ℕ) (members : AreMembers w ps) where
       let s = root_shows w r.0 m r.2 in
       subst (IsMissing w) s.1 (r.1, unplaced r.0 w.sites s.0))
       (λ k.
-      let p = from_flat (missing_at w) ps m k in
+      let p = from_flat_map (missing_at w) ps m k in
       let t = at_shows w p.0 m p.2 in
       let v = from_filter_map (entry_missing w (site_name t.0)) t.0.observed.declaration.required m t.2 in
       let s = entry_shows w (site_name t.0) v.0 m v.2 in
       subst (IsMissing w) s.2 (t.0, (members.only p.0 t.0 p.1 t.1).0, refl, (v.0, v.1, s.0, refl), unplaced v.0.name w.sites s.1))
-      (contains_either (filter_map (root_missing w) w.roots) (flat_map (missing_at w) ps) m c)
+      (Contains-append_cases (filter_map (root_missing w) w.roots) (flat_map (missing_at w) ps) m c)
 
   missing_into : (m : List ℕ × Option (List ℕ)) → IsMissing w m → Contains (all_missing w ps) m
   missing_into (name, None) h =
-      contains_left (filter_map (root_missing w) w.roots) (flat_map (missing_at w) ps) (name, None) (into_filter_map (root_missing w) w.roots name (name, None) h.0 (root_has w name (unfound name w.sites h.1)))
+      Contains-append_left (filter_map (root_missing w) w.roots) (flat_map (missing_at w) ps) (name, None) (into_filter_map (root_missing w) w.roots name (name, None) h.0 (root_has w name (unfound name w.sites h.1)))
   missing_into (name, Some by) h =
       let s : Site = h.0 in
       let need = h.3 in
@@ -74,7 +74,7 @@ module _ (w : Scene) (ps : List ℕ) (members : AreMembers w ps) where
       let here : Contains (missing_of w s) (name, Some by) = into_filter_map (entry_missing w (site_name s)) s.observed.declaration.required r (name, Some by) need.1 (entry_has w (site_name s) r need.2 nowhere ∙ ap Some same) in
       let p = members.all s h.1 in
       let at : Contains (missing_at w p.0) (name, Some by) = subst (λ (o : Option Site). Contains (option_map_or (missing_of w) o []) (name, Some by)) (sym p.2) here in
-      contains_right (filter_map (root_missing w) w.roots) (flat_map (missing_at w) ps) (name, Some by) (into_flat (missing_at w) ps p.0 (name, Some by) p.1 at)
+      Contains-append_right (filter_map (root_missing w) w.roots) (flat_map (missing_at w) ps) (name, Some by) (into_flat_map (missing_at w) ps p.0 (name, Some by) p.1 at)
 
   pub least_missing_right : (name : List ℕ) (by : Option (List ℕ)) → Some (name, by) ≡ least_from None (all_missing w ps) → IsLeast fault_cmp (MissingFault w) (NotFound name by)
   least_missing_right name by e =
@@ -82,23 +82,9 @@ module _ (w : Scene) (ps : List ℕ) (members : AreMembers w ps) where
       record { has = missing_from (name, by) k.has; least = below k }
     where
       below : IsLeast lack_cmp (Contains (all_missing w ps)) (name, by) → (f : ResolveFault) → MissingFault w f → fault_cmp f (NotFound name by) ≢ Less
-      below k NoParents h l = absurd h
       below k (NotFound n b) h l = k.least (n, b) (missing_into (n, b) h) (sym (not_found_cmp n b name by) ∙ l)
-      below k TooMany h l = absurd h
-      below k (Cycle least) h l = absurd h
-      below k (SameName reader n) h l = absurd h
-      below k (SamePackage reader p one other) h l = absurd h
-      below k (OwnPackage reader p other) h l = absurd h
-      below k (ServicePackage n service) h l = absurd h
-      below k NoMemory h l = absurd h
+      below k f h l = absurd h
 
   pub none_missing : None ≡ least_from None (all_missing w ps) → (f : ResolveFault) → MissingFault w f → ⊥
-  none_missing e NoParents h = h
   none_missing e (NotFound n b) h = least_of_none (all_missing w ps) (n, b) (sym e) (missing_into (n, b) h)
-  none_missing e TooMany h = h
-  none_missing e (Cycle least) h = h
-  none_missing e (SameName reader n) h = h
-  none_missing e (SamePackage reader p one other) h = h
-  none_missing e (OwnPackage reader p other) h = h
-  none_missing e (ServicePackage n service) h = h
-  none_missing e NoMemory h = h
+  none_missing e f h = absurd h

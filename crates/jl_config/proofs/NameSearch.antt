@@ -10,7 +10,8 @@ use Rattle.std.proofs.lemmas.List.{get_or_default}
 use Rattle.std.proofs.lemmas.List.Sorted.{searchable_from_sorted}
 use Rattle.jl_logic.specs.Order.{name_cmp, RisesBy}
 use Rattle.jl_config.proofs.Collects.{then_equal}
-use Rattle.jl_config.proofs.SameNames.{names_exact, rising_at}
+use Rattle.jl_config.proofs.SameNames.{rising_at}
+use Rattle.jl_config.proofs.Names.{names_exact}
 
 module _ {X : Type 0} (cmp : X → X → Ordering) (key : X → List ℕ) (second : X → X → Ordering) (order : (x y : X) → cmp x y ≡ ordering_then (name_cmp (key x) (key y)) (second x y)) where
   not_back : (d e : X) → cmp d e ≡ Less → is_lt (name_cmp (key e) (key d)) ≡ false

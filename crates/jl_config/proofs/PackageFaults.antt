@@ -1,16 +1,15 @@
 -- Packages that a module would have twice, from what it gets.
 use Rattle.std.proofs.Common.{◌≡◌, ◌≢◌, ◌<◌, ◌+◌, ◌-◌, ℕ, List, [], length, get_or, slice_get, ⊎_elim, refl, sym, ◌∙◌, ap, subst, Contains, Option, Some, Ordering, Less, Equal, Greater, arith}
-use Rattle.std.specs.Cmp.{IsTotalOrder}
 use Rattle.std.specs.Option.{option_map}
 use Rattle.std.specs.Ordering.{ordering_then, ordering_reverse}
 use Rattle.std.specs.Cmp.Lexicographic.{nat_list_cmp_total}
 use Rattle.std.proofs.lemmas.Bool.{cases_lt}
-use Rattle.std.proofs.lemmas.Cmp.{on_total, then_total, tied_itself}
+use Rattle.std.proofs.lemmas.Cmp.{tied_itself}
 use Rattle.std.proofs.lemmas.Option.{slice_get_within, slice_get-get_or, get_or_from_slice_get}
 use Rattle.jl_logic.specs.Order.{name_cmp}
 use Rattle.jl_logic.proofs.Rising.{contains_nothing, apart_from_total}
 use Rattle.jl_config.specs.declared.fault.ResolveFault.{ResolveFault}
-use Rattle.jl_config.specs.declared.fault.ResolveFault.TheVariants.{NoParents, NotFound, TooMany, Cycle, SameName, SamePackage, OwnPackage, ServicePackage, NoMemory}
+use Rattle.jl_config.specs.declared.fault.ResolveFault.TheVariants.{SamePackage, OwnPackage}
 use Rattle.jl_config.specs.declared.imports.Exported.{Exported}
 use Rattle.jl_config.specs.declared.imports.Imports.{Imports}
 use Rattle.jl_config.specs.declared.packages.SharedPackage.{SharedPackage}
@@ -22,13 +21,9 @@ use Rattle.jl_config.specs.Refusals.{Holds, Exports, IsSamePackage, IsOwnPackage
 use Rattle.jl_config.specs.ReadRows.{option_name, name_at}
 use Rattle.jl_config.specs.Collected.{Adds, Among}
 use Rattle.jl_config.specs.Imported.{exported_cmp, IsImportOf, AreImports, IsImport, IsPackageSharedAt, IsPackageShared, IsOwned, IsOwnedIn, same_package_fault, own_package_fault}
-use Rattle.jl_config.proofs.ReadLists.{contains_at}
-use Rattle.jl_config.proofs.ReadOrders.{same_some, site_exists}
+use Rattle.jl_config.proofs.Lists.{contains_at, same_item, item_at}
 use Rattle.jl_config.proofs.SameNames.{rising_at, twin_after}
 use Rattle.jl_config.proofs.Collects.{then_equal, least_fault, fault_not_less}
-
-exported_total : IsTotalOrder exported_cmp
-exported_total = then_total (on_total (λ (e : Exported). e.«package») nat_list_cmp_total) (on_total (λ (e : Exported). e.exporter) nat_list_cmp_total)
 
 pub shared_later : (w : Scene) (m : Imports) (i : ℕ) (c : SharedPackage) → IsPackageSharedAt w m i c → 0 < i
 shared_later w m i c h = h.2
@@ -83,14 +78,11 @@ shared_sound w m a c h s =
 
 -- ---- what a step of the search finds
 
-pub item_here : {X : Type 0} (xs ys : List X) (i : ℕ) (x : X) → ys ≡ xs → i < length xs → x ≡ get_or ys i x → slice_get xs i ≡ Some x
-item_here {X} xs ys i x e lt is = slice_get-get_or xs i x lt ∙ ap Some (sym (is ∙ ap (λ (l : List X). get_or l i x) e))
-
 module _ (w : Scene) (m : Imports) (i : ℕ) (d e : Exported) (later : 0 < i) (at : slice_get m.exported (i - 1) ≡ Some d) (be : slice_get m.exported i ≡ Some e) where
   pub not_shared : (d.«package» ≡ e.«package» → ⊥) → (c : SharedPackage) → IsPackageSharedAt w m i c → ⊥
   not_shared differ c h =
-      let f : h.0 ≡ d = same_some h.0 d (slice_get m.exported (i - 1)) h.3 at in
-      let g : h.1 ≡ e = same_some h.1 e (slice_get m.exported i) h.4 be in
+      let f : h.0 ≡ d = same_item h.0 d (slice_get m.exported (i - 1)) h.3 at in
+      let g : h.1 ≡ e = same_item h.1 e (slice_get m.exported i) h.4 be in
       differ (ap (λ (x : Exported). x.«package») (sym f) ∙ h.5 ∙ ap (λ (x : Exported). x.«package») g)
 
   pub shared_here : d.«package» ≡ e.«package» → (c : SharedPackage) → c ≡ record { reader = name_at w m.reader; «package» = e.«package»; one = d.exporter; other = e.exporter } → IsPackageSharedAt w m i c
@@ -98,8 +90,8 @@ module _ (w : Scene) (m : Imports) (i : ℕ) (d e : Exported) (later : 0 < i) (a
 
   pub shared_only : (c : SharedPackage) → c ≡ record { reader = name_at w m.reader; «package» = e.«package»; one = d.exporter; other = e.exporter } → (x : SharedPackage) → IsPackageSharedAt w m i x → c ≡ x
   shared_only c is x h =
-      let f : h.0 ≡ d = same_some h.0 d (slice_get m.exported (i - 1)) h.3 at in
-      let g : h.1 ≡ e = same_some h.1 e (slice_get m.exported i) h.4 be in
+      let f : h.0 ≡ d = same_item h.0 d (slice_get m.exported (i - 1)) h.3 at in
+      let g : h.1 ≡ e = same_item h.1 e (slice_get m.exported i) h.4 be in
       let k : x ≡ record { reader = name_at w m.reader; «package» = e.«package»; one = d.exporter; other = e.exporter } =
       h.6 ∙ (λ t. record { reader = name_at w m.reader; «package» = (g t).«package»; one = (f t).exporter; other = (g t).exporter }) in
       is ∙ sym k
@@ -118,7 +110,7 @@ module _ (w : Scene) (m : Imports) (s : Site) (at : slice_get w.sites m.reader �
   owned_in c h = (s, at, h.0, h.1, h.2)
 
   pub owned_from : (c : OwnedPackage) → IsOwnedIn w m c → Among (IsOwned s) m.exported c
-  owned_from c h = let f : h.0 ≡ s = same_some h.0 s (slice_get w.sites m.reader) h.1 at in (h.2, h.3, subst (λ v. IsOwned v h.2 c) f h.4)
+  owned_from c h = let f : h.0 ≡ s = same_item h.0 s (slice_get w.sites m.reader) h.1 at in (h.2, h.3, subst (λ v. IsOwned v h.2 c) f h.4)
 
 -- ---- the least two
 
@@ -138,7 +130,7 @@ pair_after : (w : Scene) (m : Imports) (a : Site) (i j : ℕ) (d e : Exported) �
     → Pair w m (site_name a) e.«package» d.exporter e.exporter
 pair_after w m a i j d e h lt at be same =
     let within : j < length m.exported = slice_get_within m.exported j e be in
-    let next = site_exists m.exported (i + 1) (omega arith) in
+    let next = item_at m.exported (i + 1) (omega arith) in
     let y : Exported = next.0 in
     let key : d.«package» ≡ y.«package» =
     let k : (get_or m.exported i d).«package» ≡ (get_or m.exported (i + 1) d).«package» = twin_after (λ (x : Exported). x.«package») (λ x z. name_cmp x.exporter z.exporter) m.exported h.rise i j d lt within (rw (get_or_from_slice_get m.exported i d d at, get_or_from_slice_get m.exported j e d be) same) in
@@ -164,7 +156,7 @@ pair_after w m a i j d e h lt at be same =
           apart_from_total name_cmp nat_list_cmp_total e.exporter y.exporter l f)
           (λ near l.
           let q : i + 1 ≡ j = omega (arith, near, lt) in
-          let f : y ≡ e = same_some y e (slice_get m.exported j) (subst (λ k. slice_get m.exported k ≡ Some y) q next.1) be in
+          let f : y ≡ e = same_item y e (slice_get m.exported j) (subst (λ k. slice_get m.exported k ≡ Some y) q next.1) be in
           less_apart e.exporter y.exporter l (ap (λ (x : Exported). x.exporter) (sym f)))
           (cases_lt (i + 1) j);
     }
@@ -207,7 +199,7 @@ shared_complete w ms reader p one other right s =
     ))
     (λ ge.
     let f : i.0 ≡ j.0 = omega (arith, le, ge) in
-    let g : d ≡ e = same_some d e (slice_get m.0.exported j.0) (subst (λ k. slice_get m.0.exported k ≡ Some d) f at) be in
+    let g : d ≡ e = same_item d e (slice_get m.0.exported j.0) (subst (λ k. slice_get m.0.exported k ≡ Some d) f at) be in
     absurd (s.10 (sym s.6 ∙ ap (λ (x : Exported). x.exporter) g ∙ s.7)))
     (cases_lt j.0 i.0))
     (cases_lt i.0 j.0)
@@ -243,14 +235,7 @@ least_shared w ms found cmp o right adds least order =
   where
     complete : (g : ResolveFault) → SamePackageFault w g → (x : SharedPackage) × Contains found x × (fault_cmp g (same_package_fault x) ≢ Less)
     complete (SamePackage reader p one other) s = let x = shared_complete w ms reader p one other right s in (x.0, adds.all x.0 x.1, x.2)
-    complete NoParents p = absurd p
-    complete (NotFound name by) p = absurd p
-    complete TooMany p = absurd p
-    complete (Cycle least) p = absurd p
-    complete (SameName reader name) p = absurd p
-    complete (OwnPackage reader q other) p = absurd p
-    complete (ServicePackage name service) p = absurd p
-    complete NoMemory p = absurd p
+    complete g p = absurd p
 
 -- ---- packages that the reader has
 
@@ -259,7 +244,7 @@ owned_sound w m a c h s =
     let e : Exported = s.2 in
     let b = h.only e s.3 in
     let o = s.4 in
-    let same : s.0 ≡ a = same_some s.0 a (slice_get w.sites m.reader) s.1 h.here in
+    let same : s.0 ≡ a = same_item s.0 a (slice_get w.sites m.reader) s.1 h.here in
     subst (λ (x : OwnedPackage). IsOwnPackage w (x.reader, x.«package», x.other)) (sym o.1)
     (a, b.0, ap site_name (sym same), subst (λ (v : Site). Holds v e.«package») same o.0, (h.member, b.1, b.2.0), sym b.2.1, λ f. b.3 (sym b.2.1 ∙ f ∙ ap site_name same))
 
@@ -285,11 +270,4 @@ least_owned w ms found cmp o right adds least order =
     complete (OwnPackage reader p other) s =
         let x : OwnedPackage = record { reader = reader; «package» = p; other = other } in
         (x, adds.all x (owned_complete w ms reader p other right s), fault_not_less (OwnPackage reader p other) (OwnPackage reader p other) refl)
-    complete NoParents p = absurd p
-    complete (NotFound name by) p = absurd p
-    complete TooMany p = absurd p
-    complete (Cycle least) p = absurd p
-    complete (SameName reader name) p = absurd p
-    complete (SamePackage reader q one other) p = absurd p
-    complete (ServicePackage name service) p = absurd p
-    complete NoMemory p = absurd p
+    complete g p = absurd p

@@ -1,48 +1,46 @@
 -- What a closure over the reads' rows marks is what a module reads.
 use Rattle.std.proofs.Common.{◌≡◌, ◌<◌, ℕ, zero, suc, List, [], ◌∷◌, length, get_or, slice_get, map, inl, inr, ⊎_elim, refl, sym, ◌∙◌, ap, subst, Contains, All, Option, Some, None, Bool, true, false, cond, not, ◌||◌, IsTrue, filter_map}
 use Rattle.std.proofs.lemmas.List.{length-map}
-use Rattle.std.proofs.lemmas.Option.{slice_get_within, get_or_from_slice_get, slice_get-get_or}
-use Rattle.std.proofs.lemmas.List.Elements.{All-map, All-from_recursion, All-push}
+use Rattle.std.proofs.lemmas.Option.{slice_get_within, get_or_from_slice_get, slice_get_read}
+use Rattle.std.proofs.lemmas.List.Elements.{All-map, All-push, Contains-append_left, Contains-append_right, Contains-append_cases}
 use Rattle.jl_prim.specs.declared.declaration.Requires.{Requires}
 use Rattle.jl_closure.specs.Reached.{Chain, Follows, IsReached, AreMarksOf}
 use Rattle.jl_closure.proofs.Always.{marks_exist}
-use Rattle.jl_logic.proofs.Rising.{contains_head, contains_tail, contains_cases, contains_nothing, each_from_members}
+use Rattle.jl_logic.proofs.Rising.{contains_head, contains_tail, contains_cases, contains_nothing}
 use Rattle.jl_config.specs.declared.configuration.Read.{Read}
 use Rattle.jl_config.specs.declared.site.Site.{Site}
 use Rattle.jl_config.specs.Located.{Scene, site_name, is_here, find_read, read_site}
-use Rattle.jl_config.specs.Members.{IsFound, Enumerated, IsMemberBy, IsMember, MeansHere, MeansBy, Means, IsPassedOn, ReadsBy, Reads, is_passed_on}
+use Rattle.jl_config.specs.Members.{IsMember, MeansHere, MeansBy, Means, IsPassedOn, ReadsBy, Reads, is_passed_on}
 use Rattle.jl_config.specs.Places.{place_named, place_of_site, read_place, own_place, AreMarks, AreReadBy}
 use Rattle.jl_config.specs.ReadRows.{is_open_site, is_open, open_place, meant_place, required_places, passed_place, passed_places, read_rows, read_starts}
-use Rattle.jl_config.proofs.ReadLists.{into_map, from_map, into_filter_map, from_filter_map, row_at, contains_left, contains_right, contains_either}
-use Rattle.jl_config.proofs.ReadFinds.{place_shows, place_exists, site_shows, site_exists, named_first}
+use Rattle.jl_config.proofs.Lists.{into_filter_map, from_filter_map, into_map, from_map, row_at, same_item, all_of, mark_of}
+use Rattle.jl_config.proofs.MemberFinds.{member_found}
+use Rattle.jl_config.proofs.Finds.{NamedAt, named_shows, named_place, own_shows, own_place_of, named_first}
 
 -- a place, the module there, and that it is the first of its configuration and name
 pub record First (w : Scene) (p : ℕ) (b : Site) : Type 0 where
   pub at : slice_get w.sites p ≡ Some b
   pub first : place_of_site b.config (site_name b) w.sites ≡ Some p
 
-same_some : {X : Type 0} (x y : X) (o : Option X) → o ≡ Some x → o ≡ Some y → x ≡ y
-same_some x y o e f = cc
-
 pub placed_first : (w : Scene) (name : List ℕ) (p : ℕ) (b : Site) → place_named name w.sites ≡ Some p → slice_get w.sites p ≡ Some b → First w p b
 placed_first w name p b e at =
-    let s = place_shows name w.sites p e in
-    let same : s.site ≡ b = same_some s.site b (slice_get w.sites p) s.at at in
-    let named : name ≡ site_name b = sym s.named ∙ ap site_name same in
+    let s = named_shows name w.sites p e in
+    let same : s.0 ≡ b = same_item s.0 b (slice_get w.sites p) s.1.at at in
+    let named : name ≡ site_name b = sym s.1.named ∙ ap site_name same in
     record { at = at; first = subst (λ n. place_of_site b.config n w.sites ≡ Some p) named (named_first name w.sites p b e at) }
 
 -- ---- what a name means
 
-own_shows : (w : Scene) (o : Option Read) (p : ℕ) → read_place w.sites o ≡ Some p → (b : Site) × First w p b × (read_site w.sites o ≡ Some b)
-own_shows w None p e = absurd cc
-own_shows w (Some r) p e =
-    let s = site_shows r.config r.name w.sites p e in
-    let first : place_of_site s.site.config (site_name s.site) w.sites ≡ Some p = rw (s.numbered, s.named) e in
-    (s.site, record { at = s.at; first = first }, s.found)
+meant_shows_own : (w : Scene) (o : Option Read) (p : ℕ) → read_place w.sites o ≡ Some p → (b : Site) × First w p b × (read_site w.sites o ≡ Some b)
+meant_shows_own w None p e = absurd cc
+meant_shows_own w (Some r) p e =
+    let s = own_shows r.config r.name w.sites p e in
+    let first : place_of_site s.0.config (site_name s.0) w.sites ≡ Some p = rw (s.1.numbered, s.1.named) e in
+    (s.0, record { at = s.1.at; first = first }, s.1.found)
 
 own_has : (w : Scene) (o : Option Read) (b : Site) → read_site w.sites o ≡ Some b → (p : ℕ) × (read_place w.sites o ≡ Some p) × (slice_get w.sites p ≡ Some b)
 own_has w None b e = absurd cc
-own_has w (Some r) b e = site_exists r.config r.name w.sites b e
+own_has w (Some r) b e = let s = own_place_of r.config r.name w.sites b e in (s.0, s.1.first, s.1.at)
 
 -- what a place that is kept says
 open_shows : (w : Scene) (marks : List Bool) (o : Option ℕ) (p : ℕ) → open_place w marks o ≡ Some p → (o ≡ Some p) × (is_open w marks p ≡ true)
@@ -57,21 +55,16 @@ open_member : (w : Scene) (mark : Bool) (b : Site) → is_open_site w mark (Some
 open_member w mark b e h = let f : (not true || mark) ≡ true = subst (λ t. (not t || mark) ≡ true) h e in f
 
 module _ (w : Scene) (marks : List Bool) (right : AreMarks w marks) where
-  mark_set : (p : ℕ) (b : Site) → slice_get w.sites p ≡ Some b → get_or marks p false ≡ true → slice_get marks p ≡ Some true
-  mark_set p b at e =
-      let lt : p < length marks = subst (λ n. p < n) (sym right.one_each) (slice_get_within w.sites p b at) in
-      slice_get-get_or marks p false lt ∙ ap Some e
-
   here_shows : (name : List ℕ) (p : ℕ) → open_place w marks (place_named name w.sites) ≡ Some p → (b : Site) × First w p b × MeansHere w name b
   here_shows name p e =
       let o = open_shows w marks (place_named name w.sites) p e in
-      let s = place_shows name w.sites p o.0 in
-      let opened : is_open_site w (get_or marks p false) (Some s.site) ≡ true = subst (λ (x : Option Site). is_open_site w (get_or marks p false) x ≡ true) s.at o.1 in (
-        s.site,
-        placed_first w name p s.site o.0 s.at,
+      let s = named_shows name w.sites p o.0 in
+      let opened : is_open_site w (get_or marks p false) (Some s.0) ≡ true = subst (λ (x : Option Site). is_open_site w (get_or marks p false) x ≡ true) s.1.at o.1 in (
+        s.0,
+        placed_first w name p s.0 o.0 s.1.at,
         record {
-          meant = s.found;
-          member = λ h. (right.only p s.site s.at (mark_set p s.site s.at (open_member w (get_or marks p false) s.site opened h))).0;
+          meant = s.1.found;
+          member = λ h. (right.only p s.0 s.1.at (mark_of marks p (open_member w (get_or marks p false) s.0 opened h))).0;
         },
       )
 
@@ -84,18 +77,18 @@ module _ (w : Scene) (marks : List Bool) (right : AreMarks w marks) where
 
   here_has : (name : List ℕ) (b : Site) → MeansHere w name b → (p : ℕ) × (open_place w marks (place_named name w.sites) ≡ Some p) × (slice_get w.sites p ≡ Some b)
   here_has name b m =
-      let s = place_exists name w.sites b m.meant in
-      let named : site_name b ≡ name = let r = place_shows name w.sites s.0 s.1 in ap site_name (sym (same_some r.site b (slice_get w.sites s.0) r.at s.2)) ∙ r.named in
-      let marked : IsTrue (is_here w b) → slice_get marks s.0 ≡ Some true = λ h. right.all s.0 b s.2 (m.member h) (ap (λ n. place_named n w.sites) named ∙ s.1) in
-      let kept : is_open w marks s.0 ≡ true = is_kept b s.0 s.2 marked in
-      (s.0, rw (s.1, kept) refl, s.2)
+      let s = named_place name w.sites b m.meant in
+      let f : NamedAt name w.sites s.0 b = s.1 in
+      let marked : IsTrue (is_here w b) → slice_get marks s.0 ≡ Some true = λ h. right.all s.0 b f.at (m.member h) (ap (λ n. place_named n w.sites) f.named ∙ f.first) in
+      let kept : is_open w marks s.0 ≡ true = is_kept b s.0 f.at marked in
+      (s.0, rw (f.first, kept) refl, f.at)
 
   pub meant_shows : (c : Site) (name : List ℕ) (p : ℕ) → meant_place w marks c name ≡ Some p → (b : Site) × First w p b × Means w c name b
   meant_shows c name p e = by (is_here w c) e
     where
       by : (t : Bool) → cond t (open_place w marks (place_named name w.sites)) (own_place w c name) ≡ Some p → (b : Site) × First w p b × MeansBy t w c name b
       by true f = here_shows name p f
-      by false f = own_shows w (find_read c.config (site_name c) name w.reads) p f
+      by false f = meant_shows_own w (find_read c.config (site_name c) name w.reads) p f
 
   pub meant_has : (c : Site) (name : List ℕ) (b : Site) → Means w c name b → (p : ℕ) × (meant_place w marks c name ≡ Some p) × (slice_get w.sites p ≡ Some b)
   meant_has c name b m = by (is_here w c) m
@@ -144,7 +137,7 @@ module _ (w : Scene) (marks : List Bool) (right : AreMarks w marks) where
         let m = meant_shows a v.0.name p v.2 in
         (m.0, m.1, inr (0, (v.0, v.1, m.2))))
         (λ c. let e : place ≡ p = ⊎_elim (λ e. e) (λ k. contains_nothing p k) (contains_cases place p [] c) in (a, subst (λ q. First w q a) e here, inl refl))
-        (contains_either (required_places w marks a) (place ∷ []) p h)
+        (Contains-append_cases (required_places w marks a) (place ∷ []) p h)
     chain_shows (suc n) p h =
         let before = chain_shows n h.0 h.1 in
         let s = row_shows h.0 p before.0 before.1.at h.2 in
@@ -153,7 +146,7 @@ module _ (w : Scene) (marks : List Bool) (right : AreMarks w marks) where
     chain_has : (n : ℕ) (b : Site) → ReadsBy w n a b → (p : ℕ) × Chain (read_rows w marks) (read_starts w marks a place) n p × (slice_get w.sites p ≡ Some b)
     chain_has zero b h =
         let m = meant_has a h.0.name b h.2 in
-        (m.0, contains_left (required_places w marks a) (place ∷ []) m.0 (into_filter_map (λ (r : Requires). meant_place w marks a r.name) a.observed.declaration.required h.0 m.0 h.1 m.1), m.2)
+        (m.0, Contains-append_left (required_places w marks a) (place ∷ []) m.0 (into_filter_map (λ (r : Requires). meant_place w marks a r.name) a.observed.declaration.required h.0 m.0 h.1 m.1), m.2)
     chain_has (suc n) b h =
         let before = chain_has n h.0 h.1 in
         let s = row_has before.0 h.0 b before.2 h.2 in
@@ -162,7 +155,7 @@ module _ (w : Scene) (marks : List Bool) (right : AreMarks w marks) where
     reached_has : (b : Site) → Reads w a b → (p : ℕ) × IsReached (read_rows w marks) (read_starts w marks a place) p × (slice_get w.sites p ≡ Some b)
     reached_has b h =
         ⊎_elim
-        (λ e. (place, (0, contains_right (required_places w marks a) (place ∷ []) place (contains_head place [])), here.at ∙ ap Some e))
+        (λ e. (place, (0, Contains-append_right (required_places w marks a) (place ∷ []) place (contains_head place [])), here.at ∙ ap Some e))
         (λ m. let s = chain_has m.0 b m.1 in (s.0, (m.0, s.1), s.2))
         h
 
@@ -170,14 +163,14 @@ module _ (w : Scene) (marks : List Bool) (right : AreMarks w marks) where
     pub read_by_marks : (reached : List Bool) (ps : List ℕ) → AreMarksOf (read_rows w marks) (read_starts w marks a place) reached
         → ((p : ℕ) → Contains ps p → slice_get reached p ≡ Some true) → ((p : ℕ) → slice_get reached p ≡ Some true → Contains ps p) → AreReadBy w a ps
     read_by_marks reached ps m only all = record {
-      within = All-from_recursion (λ p. p < length w.sites) ps (each_from_members (λ p. p < length w.sites) ps (λ p c.
+      within = all_of (λ p. p < length w.sites) ps (λ p c.
           let r = m.only p (only p c) in
           let s = chain_shows r.0 p r.1 in
-          slice_get_within w.sites p s.0 s.1.at));
+          slice_get_within w.sites p s.0 s.1.at);
       only = λ p b c at.
           let r = m.only p (only p c) in
           let s = chain_shows r.0 p r.1 in
-          let same : s.0 ≡ b = same_some s.0 b (slice_get w.sites p) s.1.at at in
+          let same : s.0 ≡ b = same_item s.0 b (slice_get w.sites p) s.1.at at in
           (subst (Reads w a) same s.2, (subst (First w p) same s.1).first);
       all = λ b h. let s = reached_has b h in (s.0, all s.0 (m.all s.0 s.1), s.2);
     }
@@ -188,11 +181,11 @@ meant_within : (w : Scene) (marks : List Bool) (c : Site) (name : List ℕ) (p :
 meant_within w marks c name p e = by (is_here w c) e
   where
     by : (t : Bool) → cond t (open_place w marks (place_named name w.sites)) (own_place w c name) ≡ Some p → p < length w.sites
-    by true f = let o = open_shows w marks (place_named name w.sites) p f in let s = place_shows name w.sites p o.0 in slice_get_within w.sites p s.site s.at
-    by false f = let s = own_shows w (find_read c.config (site_name c) name w.reads) p f in slice_get_within w.sites p s.0 s.1.at
+    by true f = let o = open_shows w marks (place_named name w.sites) p f in let s = named_shows name w.sites p o.0 in slice_get_within w.sites p s.0 s.1.at
+    by false f = let s = meant_shows_own w (find_read c.config (site_name c) name w.reads) p f in slice_get_within w.sites p s.0 s.1.at
 
 each_place : {X : Type 0} (h : X → Option ℕ) (n : ℕ) → ((x : X) (p : ℕ) → h x ≡ Some p → p < n) → (xs : List X) → All (λ p. p < n) (filter_map h xs)
-each_place h n below xs = All-from_recursion (λ p. p < n) (filter_map h xs) (each_from_members (λ p. p < n) (filter_map h xs) (λ p c. let v = from_filter_map h xs p c in below v.0 p v.2))
+each_place h n below xs = all_of (λ p. p < n) (filter_map h xs) (λ p c. let v = from_filter_map h xs p c in below v.0 p v.2)
 
 passed_within : (w : Scene) (marks : List Bool) (c : Site) → All (λ p. p < length w.sites) (passed_places w marks c)
 passed_within w marks c = each_place (passed_place w marks c) (length w.sites) (λ r p e. by r p (is_passed_on r) e) c.observed.declaration.required
@@ -218,21 +211,10 @@ starts_within w marks a place next starts e f lt =
 
 -- ---- a module of the set
 
-pub member_found : (w : Scene) (a : Site) → IsMember w a → IsFound w a
-member_found w a m = by w.binds m
-  where
-    by_steps : (n : ℕ) → Enumerated w n a → IsFound w a
-    by_steps zero h = h.0
-    by_steps (suc n) h = h.0
-
-    by : (b : Bool) → IsMemberBy b w a → IsFound w a
-    by true h = h.1.0
-    by false h = by_steps h.0 h.1
-
 pub member_first : (w : Scene) (a : Site) → IsMember w a → (p : ℕ) × First w p a
 member_first w a m =
-    let s = place_exists (site_name a) w.sites a (member_found w a m).meant in
-    (s.0, placed_first w (site_name a) s.0 a s.1 s.2)
+    let s = named_place (site_name a) w.sites a (member_found w a m).meant in
+    (s.0, placed_first w (site_name a) s.0 a s.1.first s.1.at)
 
 -- the places whose marks are set
 abbrev places_of : List Bool → List ℕ
@@ -271,6 +253,6 @@ pub marks_for : (w : Scene) (marks : List Bool) (a : Site) (place : ℕ) (next :
     → length reached ≡ length next → ((p : ℕ) → slice_get reached p ≡ Some true → IsReached next starts p) → ((p : ℕ) → IsReached next starts p → slice_get reached p ≡ Some true)
     → AreMarksOf (read_rows w marks) (read_starts w marks a place) reached
 marks_for w marks a place next starts reached e s at lt is f long only all =
-    let here : slice_get w.sites place ≡ Some s = slice_get-get_or w.sites place s lt ∙ ap Some (sym is) in
-    let same : s ≡ a = same_some s a (slice_get w.sites place) here at in
+    let here : slice_get w.sites place ≡ Some s = slice_get_read w.sites (length w.sites) place s refl lt is in
+    let same : s ≡ a = same_item s a (slice_get w.sites place) here at in
     subst (λ n. AreMarksOf n (read_starts w marks a place) reached) e (subst (λ b. AreMarksOf next b reached) (f ∙ ap (λ v. read_starts w marks v place) same) (record { one_each = long; only = only; all = all }))

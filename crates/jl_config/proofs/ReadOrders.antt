@@ -1,13 +1,13 @@
 -- The order of places by name, and what the readings hold so far.
-use Rattle.std.proofs.Common.{inl, inr, ◌⊎◌, ◌≡◌, ◌<◌, ◌≤◌, ◌+◌, ℕ, zero, suc, List, [], ◌∷◌, ◌++◌, length, map, take, get_or, slice_get, ⊎_elim, refl, sym, ◌∙◌, ap, ap₂, subst, Contains, ◌&&◌, eqb, Option, Some, None, Bool, true, false, cond, filter_map, Ordering, Less, arith}
+use Rattle.std.proofs.Common.{◌≡◌, ◌<◌, ◌≤◌, ◌+◌, ℕ, List, [], ◌∷◌, ◌++◌, length, map, take, get_or, slice_get, ⊎_elim, refl, sym, ◌∙◌, ap, ap₂, subst, Contains, ◌&&◌, eqb, Some, None, Bool, true, false, cond, filter_map, Ordering, Less, arith}
 use Rattle.std.specs.List.{AllByRecursion, Any, cons_option}
 use Rattle.std.specs.List.Sorted.{IsStrictlySortedBy}
-use Rattle.std.proofs.lemmas.Option.{slice_get_within, get_or_from_slice_get, slice_get-get_or}
+use Rattle.std.proofs.lemmas.Option.{slice_get_within, get_or_from_slice_get, slice_get-get_or, slice_get_read}
 use Rattle.std.proofs.lemmas.List.{take_more, take_all, map-append}
-use Rattle.std.proofs.lemmas.Bool.{cases_lt, and_parts, eqb-true}
-use Rattle.std.proofs.lemmas.List.Elements.{All-contains}
+use Rattle.std.proofs.lemmas.Bool.{and_parts, eqb-true}
+use Rattle.std.proofs.lemmas.List.Elements.{All-contains, Contains-append_left, Contains-append_right}
 use Rattle.jl_logic.specs.Order.{is_text, RisesBy}
-use Rattle.jl_logic.proofs.Rising.{contains_head, contains_tail, contains_cases, contains_nothing, each_from_members, each_of_member}
+use Rattle.jl_logic.proofs.Rising.{contains_head, contains_tail, contains_nothing, each_from_members, each_of_member}
 use Rattle.jl_closure.specs.Reached.{AreMarksOf}
 use Rattle.jl_config.specs.declared.site.Site.{Site}
 use Rattle.jl_config.specs.declared.readings.Reading.{Reading}
@@ -16,28 +16,14 @@ use Rattle.jl_config.specs.Located.{Scene, site_name}
 use Rattle.jl_config.specs.Orders.{site_cmp}
 use Rattle.jl_config.specs.Places.{sites_at, AreMarks, AreMembers, AreReadBy}
 use Rattle.jl_config.specs.ReadRows.{option_name, place_cmp, placed_cmp, placed, AreByName, marked_place, read_rows, read_starts, IsRead, IsReadingOf, reading_cmp, AreReadings}
-use Rattle.jl_config.proofs.ReadLists.{contains_at, contains_left, contains_right, contains_either, into_filter_map, from_filter_map, from_map, into_map}
-use Rattle.jl_config.proofs.ReadFinds.{text_same}
+use Rattle.jl_config.proofs.Lists.{into_filter_map, from_filter_map, contains_at, into_map, from_map, last_or_before, below_or_last, same_item, item_at}
+use Rattle.jl_config.proofs.Names.{text_is}
 use Rattle.jl_config.proofs.ReadMarks.{First, placed_first, read_by_marks, rows_long}
 
 pub strictly_rises : {X : Type 0} (cmp : X → X → Ordering) (xs : List X) → IsStrictlySortedBy cmp xs → RisesBy cmp xs
 unfolding IsStrictlySortedBy
 strictly_rises cmp [] h = tt
 strictly_rises cmp (x ∷ xs) h = (h.0, strictly_rises cmp xs h.1)
-
--- the item that is last
-pub last_or_before : {X : Type 0} (xs : List X) (x y : X) (A : Type 0) → Contains (xs ++ x ∷ []) y → (Contains xs y → A) → (x ≡ y → A) → A
-last_or_before xs x y A c before last = ⊎_elim before (λ k. ⊎_elim last (λ n. contains_nothing y n) (contains_cases x y [] k)) (contains_either xs (x ∷ []) y c)
-
-pub site_here : (w : Scene) (p : ℕ) (s : Site) → p < length w.sites → s ≡ get_or w.sites p s → slice_get w.sites p ≡ Some s
-site_here w p s lt is = slice_get-get_or w.sites p s lt ∙ ap Some (sym is)
-
-pub below_or_last : (p i : ℕ) → p < i + 1 → (p < i) ⊎ (p ≡ i)
-below_or_last p i lt = by (cases_lt p i)
-  where
-    by : (p < i) ⊎ (i ≤ p) → (p < i) ⊎ (p ≡ i)
-    by (inl a) = inl a
-    by (inr b) = inr (omega arith)
 
 -- an item of a set that has one that is the same
 pub from_any : {X : Type 0} {same : X → X → Bool} → ((x y : X) → same x y ≡ true → x ≡ y) → (xs ys : List X) (x : X) → Contains xs x → ((x : X) → Contains xs x → Any (λ y. same x y ≡ true) ys) → Contains ys x
@@ -59,15 +45,15 @@ placed_more w sites i s name old new whole_is lt0 is0 e f h =
     let lt : i < length w.sites = subst (λ (l : List Site). i < length l) whole_is lt0 in
     let is : s ≡ get_or w.sites i s = is0 ∙ ap (λ (l : List Site). get_or l i s) whole_is in
     let x : Placed = record { name = name; place = i } in
-    let at : slice_get w.sites i ≡ Some s = site_here w i s lt is in
+    let at : slice_get w.sites i ≡ Some s = slice_get_read w.sites (length w.sites) i s refl lt is in
     let same : x ≡ placed w i = ap (λ (n : List ℕ). record { name = n; place = i }) (e ∙ sym (ap option_name at)) in
     subst (ArePlaced w (i + 1)) (sym f) (record {
       only = λ y c. last_or_before old x y ((y.place < length w.sites) × (y ≡ placed w y.place)) c (h.only y) (λ g.
           let whole : y ≡ placed w i = sym g ∙ same in
           subst (λ (z : Placed). (z.place < length w.sites) × (z ≡ placed w z.place)) (sym whole) (lt, refl));
       all = λ p le. ⊎_elim
-          (λ less. contains_left old (x ∷ []) (placed w p) (h.all p less))
-          (λ g. subst (λ q. Contains (old ++ x ∷ []) (placed w q)) (sym g) (subst (Contains (old ++ x ∷ [])) same (contains_right old (x ∷ []) x (contains_head x []))))
+          (λ less. Contains-append_left old (x ∷ []) (placed w p) (h.all p less))
+          (λ g. subst (λ q. Contains (old ++ x ∷ []) (placed w q)) (sym g) (subst (Contains (old ++ x ∷ [])) same (Contains-append_right old (x ∷ []) x (contains_head x []))))
           (below_or_last p i le);
     })
 
@@ -83,7 +69,7 @@ placed_sorted w i cmp same xs ys le h order exact up only all = record {
 pub placed_exact : (x y : Placed) → (is_text x.name y.name && eqb x.place y.place) ≡ true → x ≡ y
 placed_exact x y e =
     let both = and_parts (is_text x.name y.name) (eqb x.place y.place) e in
-    let name : x.name ≡ y.name = text_same x.name y.name both.0 in
+    let name : x.name ≡ y.name = text_is x.name y.name both.0 in
     let place : x.place ≡ y.place = eqb-true x.place y.place both.1 in
     λ i. record { name = name i; place = place i }
 
@@ -126,21 +112,12 @@ pub record AreRead (w : Scene) (places : List ℕ) (i : ℕ) (rs : List Reading)
   pub readers : map reader_of rs ≡ take i places
   pub each : (r : Reading) → Contains rs r → (a : Site) × IsReadingOf w r a
 
-pub none_read : (w : Scene) (places : List ℕ) (rs : List Reading) → rs ≡ [] → AreRead w places 0 rs
-none_read w places rs e = subst (AreRead w places 0) (sym e) (record { readers = refl; each = λ r c. contains_nothing r c })
-
--- an item at each place that there is
-pub site_exists : {X : Type 0} (xs : List X) (p : ℕ) → p < length xs → (x : X) × (slice_get xs p ≡ Some x)
-site_exists [] p lt = absurd (omega arith)
-site_exists (x ∷ xs) zero lt = (x, refl)
-site_exists (x ∷ xs) (suc p) lt = site_exists xs p (omega arith)
-
 -- what the module at a place reads, of a closure's marks
 pub one_read : (w : Scene) (marks : List Bool) (places : List ℕ) (p : ℕ) (order : List Placed) (reached : List Bool) (r : Reading) → AreMarks w marks → AreMembers w places → Contains places p → AreByName w order
     → ((a : Site) → slice_get w.sites p ≡ Some a → AreMarksOf (read_rows w marks) (read_starts w marks a p) reached) → r.reader ≡ p → r.read ≡ filter_map (marked_place reached) order → (a : Site) × IsReadingOf w r a
 one_read w marks places p order reached r right members c sorted closed e f =
     let lt : p < length w.sites = All-contains (λ q. q < length w.sites) places p members.within c in
-    let s = site_exists w.sites p lt in
+    let s = item_at w.sites p lt in
     let a : Site = s.0 in
     let member = members.only p a c s.1 in
     let first : First w p a = placed_first w (site_name a) p a member.1 s.1 in
@@ -171,9 +148,6 @@ more_read w places i p r old new lt is e one f h = subst (AreRead w places (i + 
   readers = map-append reader_of old (r ∷ []) ∙ ap₂ (λ l q. l ++ q ∷ []) h.readers (e ∙ is) ∙ sym (take_more places i 0 lt);
   each = λ s c. last_or_before old r s ((a : Site) × IsReadingOf w s a) c (h.each s) (λ g. subst (λ (t : Reading). (a : Site) × IsReadingOf w t a) g one);
 })
-
-pub same_some : {X : Type 0} (x y : X) (o : Option X) → o ≡ Some x → o ≡ Some y → x ≡ y
-same_some x y o e f = cc
 
 module _ (w : Scene) where
   less_name : (r : Reading) (a : Site) (s : Reading) (b : Site) → IsReadingOf w r a → IsReadingOf w s b → site_cmp a b ≡ Less → reading_cmp w r s ≡ Less
@@ -208,6 +182,6 @@ all_read w places i rs le members h =
           let v = from_map reader_of rs p.0 (subst (λ ps. Contains ps p.0) (sym readers) p.1) in
           let s = h.each v.0 v.1 in
           let at : slice_get w.sites v.0.reader ≡ Some a = subst (λ q. slice_get w.sites q ≡ Some a) (sym v.2) p.2 in
-          let same : s.0 ≡ a = same_some s.0 a (slice_get w.sites v.0.reader) s.1.here at in
+          let same : s.0 ≡ a = same_item s.0 a (slice_get w.sites v.0.reader) s.1.here at in
           (v.0, v.1, subst (IsReadingOf w v.0) same s.1);
     }

@@ -1,5 +1,5 @@
 -- The least of a list, and a list put in order.
-use Rattle.std.proofs.Common.{◌≡◌, ◌⊎◌, ◌≤◌, List, [], ◌∷◌, length, inl, inr, ⊎_elim, refl, sym, ◌∙◌, ap, subst, Contains, Ordering, Less, Equal, Greater, arith}
+use Rattle.std.proofs.Common.{◌≡◌, ◌⊎◌, ◌≤◌, List, [], ◌∷◌, length, inl, inr, ⊎_elim, refl, sym, ◌∙◌, ap, subst, Contains, Ordering, Less, Equal, Greater, arith, ◌≢◌}
 use Rattle.std.specs.Ordering.{ordering_reverse}
 use Rattle.std.specs.Cmp.{IsTotalOrder}
 use Rattle.jl_logic.specs.Order.{RisesBy, IsLeast}
@@ -9,6 +9,15 @@ use Rattle.jl_config.proofs.Listings.{Listing}
 module _ {X : Type 0} (cmp : X → X → Ordering) (total : IsTotalOrder cmp) where
   pub not_below_itself : (x : X) → cmp x x ≡ Less → ⊥
   not_below_itself x l = apart_from_total cmp total x x l l
+
+  -- what is less than one that is no more than another is less than that
+  pub less_through : (a b m : X) → cmp b a ≢ Less → cmp b m ≡ Less → cmp a m ≡ Less
+  less_through a b m n h = by (cmp b a) refl
+    where
+      by : (r : Ordering) → cmp b a ≡ r → cmp a m ≡ Less
+      by Less e = absurd (n e)
+      by Equal e = sym (total.congr b a m e) ∙ h
+      by Greater e = total.trans a b m (total.antisymm a b ∙ ap ordering_reverse e) h
 
   -- ---- the least
 

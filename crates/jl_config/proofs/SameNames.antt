@@ -1,17 +1,17 @@
 -- Modules of one name stand side by side in a reading.
 use Rattle.std.proofs.Common.{◌≡◌, ◌≢◌, ◌<◌, ◌+◌, ◌-◌, ℕ, zero, suc, List, [], ◌∷◌, length, get_or, slice_get, ⊎_elim, refl, sym, ◌∙◌, ap, subst, Contains, Option, Some, Ordering, Less, Equal, Greater, arith}
-use Rattle.std.specs.Ordering.{ordering_then, ordering_reverse, nat_cmp, is_eq}
-use Rattle.std.specs.Cmp.Lexicographic.{bytes_decides, texts_ties, nat_list_cmp_total}
+use Rattle.std.specs.Ordering.{ordering_then, ordering_reverse, nat_cmp}
+use Rattle.std.specs.Cmp.Lexicographic.{nat_list_cmp_total}
 use Rattle.std.proofs.lemmas.Bool.{cases_lt}
 use Rattle.std.proofs.lemmas.Cmp.{nat_cmp_total, tied_itself}
-use Rattle.std.proofs.lemmas.Option.{slice_get_within, slice_get-get_or}
+use Rattle.std.proofs.lemmas.Option.{slice_get-get_or}
 use Rattle.std.specs.Option.{option_map}
 use Rattle.std.proofs.lemmas.List.{get_or_default}
 use Rattle.std.proofs.lemmas.List.Elements.{All-contains}
 use Rattle.jl_logic.specs.Order.{name_cmp, RisesBy}
 use Rattle.jl_logic.proofs.Rising.{each_of_member, contains_nothing, apart_from_total}
 use Rattle.jl_config.specs.declared.fault.ResolveFault.{ResolveFault}
-use Rattle.jl_config.specs.declared.fault.ResolveFault.TheVariants.{NoParents, NotFound, TooMany, Cycle, SameName, SamePackage, OwnPackage, ServicePackage, NoMemory}
+use Rattle.jl_config.specs.declared.fault.ResolveFault.TheVariants.{SameName}
 use Rattle.jl_config.specs.declared.readings.Reading.{Reading}
 use Rattle.jl_config.specs.declared.same_name.SharedName.{SharedName}
 use Rattle.jl_config.specs.declared.site.Site.{Site}
@@ -19,14 +19,11 @@ use Rattle.jl_config.specs.Located.{Scene, site_name}
 use Rattle.jl_config.specs.Members.{Reads}
 use Rattle.jl_config.specs.Places.{place_of_site, IsLeastSome, SameNameFault}
 use Rattle.jl_config.specs.ReadRows.{option_name, name_at, place_cmp, IsReadingOf, AreReadings}
-use Rattle.jl_config.specs.Collected.{Adds, Among, IsReading, read_name, IsShared, same_name_fault}
+use Rattle.jl_config.specs.Collected.{Adds, Among, read_name, IsShared, same_name_fault}
 use Rattle.jl_config.specs.Refusals.{IsSameName, fault_cmp}
-use Rattle.jl_config.proofs.ReadLists.{contains_at}
-use Rattle.jl_config.proofs.ReadOrders.{site_exists}
+use Rattle.jl_config.proofs.Lists.{contains_at, item_at}
 use Rattle.jl_config.proofs.Collects.{then_equal, least_fault, fault_not_less}
-
-pub names_exact : (a b : List ℕ) → name_cmp a b ≡ Equal → a ≡ b
-names_exact a b e = (bytes_decides a b).0 (texts_ties a b ∙ ap is_eq e)
+use Rattle.jl_config.proofs.Names.{names_exact}
 
 -- ---- lists that rise by a name and something more
 
@@ -68,12 +65,6 @@ module _ {X : Type 0} (k : X → List ℕ) (second : X → X → Ordering) where
 pub reader_name : (w : Scene) (r : Reading) (a : Site) → IsReadingOf w r a → name_at w r.reader ≡ site_name a
 reader_name w r a h = ap option_name h.here
 
-pub reader_within : (w : Scene) (r : Reading) → IsReading w r → r.reader < length w.sites
-reader_within w r h = slice_get_within w.sites r.reader h.0 h.1.here
-
-pub read_within : (w : Scene) (r : Reading) (i : ℕ) → IsReading w r → i < length r.read → get_or r.read i 0 < length w.sites
-read_within w r i h lt = All-contains (λ p. p < length w.sites) r.read (get_or r.read i 0) h.1.reads.read.within (contains_at r.read i (get_or r.read i 0) (slice_get-get_or r.read i 0 lt))
-
 -- a place of a reading, and the module there
 pub record ReadAt (w : Scene) (a : Site) (p : ℕ) : Type 0 where
   pub site : Site
@@ -83,7 +74,7 @@ pub record ReadAt (w : Scene) (a : Site) (p : ℕ) : Type 0 where
 
 pub place_read : (w : Scene) (r : Reading) (a : Site) (p : ℕ) → IsReadingOf w r a → Contains r.read p → ReadAt w a p
 place_read w r a p h c =
-    let s = site_exists w.sites p (All-contains (λ q. q < length w.sites) r.read p h.reads.read.within c) in
+    let s = item_at w.sites p (All-contains (λ q. q < length w.sites) r.read p h.reads.read.within c) in
     let o = h.reads.read.only p s.0 c s.1 in
     record { site = s.0; at = s.1; read = o.0; first = o.1 }
 
@@ -184,11 +175,4 @@ least_same w rs found cmp o right adds least order =
   where
     complete : (g : ResolveFault) → SameNameFault w g → (x : SharedName) × Contains found x × (fault_cmp g (same_name_fault x) ≢ Less)
     complete (SameName reader name) p = (record { reader = reader; name = name }, adds.all (record { reader = reader; name = name }) (shared_complete w rs reader name right p), fault_not_less (SameName reader name) (SameName reader name) refl)
-    complete NoParents p = absurd p
-    complete (NotFound name by) p = absurd p
-    complete TooMany p = absurd p
-    complete (Cycle least) p = absurd p
-    complete (SamePackage reader q one other) p = absurd p
-    complete (OwnPackage reader q other) p = absurd p
-    complete (ServicePackage name service) p = absurd p
-    complete NoMemory p = absurd p
+    complete g p = absurd p

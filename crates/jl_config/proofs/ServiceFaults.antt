@@ -10,7 +10,7 @@ use Rattle.jl_logic.proofs.Rising.{contains_nothing}
 use Rattle.jl_prim.specs.declared.numbers.ConfigId.{ConfigId}
 use Rattle.jl_names.specs.Names.{package_of}
 use Rattle.jl_config.specs.declared.fault.ResolveFault.{ResolveFault}
-use Rattle.jl_config.specs.declared.fault.ResolveFault.TheVariants.{NoParents, NotFound, TooMany, Cycle, SameName, SamePackage, OwnPackage, ServicePackage, NoMemory}
+use Rattle.jl_config.specs.declared.fault.ResolveFault.TheVariants.{SameName, ServicePackage}
 use Rattle.jl_config.specs.declared.imports.Exported.{Exported}
 use Rattle.jl_config.specs.declared.imports.Imports.{Imports}
 use Rattle.jl_config.specs.declared.services.UnseenService.{UnseenService}
@@ -20,11 +20,12 @@ use Rattle.jl_config.specs.Members.{Reads, Uses, IsProvidedBy}
 use Rattle.jl_config.specs.Places.{IsLeastSome, SameNameFault, ServiceFault}
 use Rattle.jl_config.specs.Refusals.{Exports, Sees, IsServicePackage, fault_cmp}
 use Rattle.jl_config.specs.Collected.{Adds, Among, AreSorted}
-use Rattle.jl_config.specs.Imported.{exported_cmp, IsImportOf, IsImport, AreImports, IsImported, IsOwnExport, AreOwn, IsSeen, IsUnseen, IsUnseenProvided, IsUnseenIn, service_fault}
-use Rattle.jl_config.proofs.ReadFinds.{text_same, text_differs, same_number}
+use Rattle.jl_config.specs.Imported.{exported_cmp, IsImportOf, AreImports, IsImported, IsOwnExport, AreOwn, IsSeen, IsUnseen, IsUnseenProvided, IsUnseenIn, service_fault}
+use Rattle.jl_config.proofs.Names.{text_is, text_differs}
 use Rattle.jl_config.proofs.NameSearch.{key_searched}
-use Rattle.jl_config.proofs.ReadOrders.{same_some}
+use Rattle.jl_config.proofs.Lists.{same_item}
 use Rattle.jl_config.proofs.Collects.{then_equal, least_fault, fault_not_less}
+use Rattle.jl_config.proofs.Finds.{same_number}
 
 -- ---- a search by package
 
@@ -49,9 +50,6 @@ module _ (s : Site) (own : List (List ℕ)) (es : List Exported) (right : AreOwn
 
 -- ---- what a reader does not see
 
-pub import_rises : (w : Scene) (m : Imports) → IsImport w m → RisesBy exported_cmp m.exported
-import_rises w m h = h.1.rise
-
 module _ (w : Scene) (m : Imports) (s : Site) (at : slice_get w.sites m.reader ≡ Some s) where
   pub used_in : (c : UnseenService) → Among (IsUnseen s m.exported) s.observed.declaration.uses c → IsUnseenIn w m c
   used_in c h =
@@ -65,7 +63,7 @@ module _ (w : Scene) (m : Imports) (s : Site) (at : slice_get w.sites m.reader �
 
   pub unseen_from : (c : UnseenService) → IsUnseenIn w m c → Among (IsUnseen s m.exported) s.observed.declaration.uses c ⊎ Among (IsUnseenProvided s m.exported) s.observed.declaration.provides c
   unseen_from c h =
-      let f : h.0 ≡ s = same_some h.0 s (slice_get w.sites m.reader) h.1 at in
+      let f : h.0 ≡ s = same_item h.0 s (slice_get w.sites m.reader) h.1 at in
       let u : IsUnseen s m.exported c.service c = subst (λ v. IsUnseen v m.exported c.service c) f h.3 in
       ⊎_elim
       (λ k. inl (c.service, subst (λ (v : Site). Uses v c.service) f k, u))
@@ -88,7 +86,7 @@ module _ (w : Scene) (apart : (f : ResolveFault) → SameNameFault w f → ⊥) 
       let b : Site = g.0 in
       ⊎_elim
       (λ t.
-      let same : b ≡ a = own_only b g.1.1 (text_same (site_name b) (site_name a) t) in
+      let same : b ≡ a = own_only b g.1.1 (text_is (site_name b) (site_name a) t) in
       inr (inl (subst (λ (v : Site). Exports v p (site_name a)) same g.1.2)))
       (λ f. inr (inr (record { «package» = p; exporter = site_name b }, h.all b p g.1.1 g.1.2 (text_differs (site_name b) (site_name a) f), refl)))
       (cases_Bool (is_text (site_name b) (site_name a)))) s
@@ -101,7 +99,7 @@ module _ (w : Scene) (apart : (f : ResolveFault) → SameNameFault w f → ⊥) 
 
   pub unseen_sound : (c : UnseenService) → IsUnseenIn w m c → IsServicePackage w (c.«module», c.service)
   unseen_sound c u =
-      let f : u.0 ≡ a = same_some u.0 a (slice_get w.sites m.reader) u.1 h.here in
+      let f : u.0 ≡ a = same_item u.0 a (slice_get w.sites m.reader) u.1 h.here in
       let k : IsUnseen a m.exported c.service c = subst (λ v. IsUnseen v m.exported c.service c) f u.3 in
       let named : site_name a ≡ c.«module» = ap (λ (x : UnseenService). x.«module») (sym k.1) in
       (a, h.member, named, subst (λ (v : Site). Uses v c.service ⊎ IsProvidedBy v c.service) f u.2, λ s. k.0 (seen_by (package_of c.service) s))
@@ -123,11 +121,4 @@ least_unseen w apart ms found cmp o right adds least order =
         let x : UnseenService = record { «module» = name; service = service } in
         let m = right.all s.0 s.1 in
         (x, adds.all x (m.0, m.1, unseen_has w apart m.0 s.0 m.2 name service s.2 s.3 s.4), fault_not_less (ServicePackage name service) (ServicePackage name service) refl)
-    complete NoParents p = absurd p
-    complete (NotFound name by) p = absurd p
-    complete TooMany p = absurd p
-    complete (Cycle least) p = absurd p
-    complete (SameName reader name) p = absurd p
-    complete (SamePackage reader q one other) p = absurd p
-    complete (OwnPackage reader q other) p = absurd p
-    complete NoMemory p = absurd p
+    complete g p = absurd p

@@ -7,16 +7,13 @@ use Rattle.jl_config.specs.declared.site.Site.{Site}
 use Rattle.jl_config.specs.declared.configuration.Read.{Read}
 use Rattle.jl_config.specs.Graphs.{Graph}
 use Rattle.jl_config.specs.Located.{site_name, is_numbered, lineage, graph_of, empty_graph, sites_of}
-use Rattle.jl_config.specs.Lineages.{all_sites, all_reads, reads_with}
+use Rattle.jl_config.specs.Lineages.{all_sites, all_reads, reads_with, is_named}
 use Rattle.jl_config.specs.Places.{place_named, place_of_site}
 use Rattle.jl_config.specs.Tables.{first_where, or_at}
 use Rattle.jl_logic.specs.Order.{is_text}
 use Rattle.jl_prim.specs.declared.declaration.Observed.{Observed}
 
-abbrev pub named_test : List ℕ → Site → Bool
-named_test name s = is_text (site_name s) name
-
-pub first_named : (name : List ℕ) (ss : List Site) → place_named name ss ≡ first_where (named_test name) ss
+pub first_named : (name : List ℕ) (ss : List Site) → place_named name ss ≡ first_where (is_named name) ss
 first_named name [] = refl
 first_named name (s ∷ ss) = ap (λ (o : Option ℕ). cond (is_text (site_name s) name) (Some 0) (option_map (λ p. p + 1) o)) (first_named name ss)
 
@@ -44,42 +41,14 @@ pub first_own : (config : ConfigId) (name : List ℕ) (ss : List Site) → place
 first_own config name [] = refl
 first_own config name (s ∷ ss) = ap (λ (o : Option ℕ). cond (own_test config name s) (Some 0) (option_map (λ p. p + 1) o)) (first_own config name ss)
 
-first_here : (test : Site → Bool) (ss : List Site) (i : ℕ) (s : Site) → i < length ss → get_or ss i s ≡ s → test s ≡ true → first_where test (take i ss) ≡ None → first_where test ss ≡ Some i
-first_here test [] i s lt at e none = absurd (omega arith)
-first_here test (w ∷ ss) zero s lt at e none =
-    let here : test w ≡ true = ap test at ∙ e in
-    ap (λ (b : Bool). cond b (Some 0) (option_map (λ p. p + 1) (first_where test ss))) here
-first_here test (w ∷ ss) (suc i) s lt at e none = by (test w) (λ f. first_here test ss i s (omega arith) at e f) none
-  where
-    rest_none : (o : Option ℕ) → option_map (λ p. p + 1) o ≡ None → o ≡ None
-    rest_none None f = refl
-    rest_none (Some p) f = absurd cc
-
-    by : (b : Bool) → (first_where test (take i ss) ≡ None → first_where test ss ≡ Some i) → cond b (Some 0) (option_map (λ p. p + 1) (first_where test (take i ss))) ≡ None
-        → cond b (Some 0) (option_map (λ p. p + 1) (first_where test ss)) ≡ Some (suc i)
-    by true more f = absurd cc
-    by false more f = ap (option_map (λ p. p + 1)) (more (rest_none (first_where test (take i ss)) f)) ∙ ap Some (add-one i)
-
--- the module at i is the one, and none before it is
-pub own_here : (config : ConfigId) (name : List ℕ) (ss : List Site) (i : ℕ) (s : Site) → i < length ss → s ≡ get_or ss i s → place_of_site config name (take i ss) ≡ None → own_test config name s ≡ true → Some i ≡ place_of_site config name ss
-own_here config name ss i s lt is none e =
-    sym (first_own config name ss ∙ first_here (own_test config name) ss i s lt (sym is) e (sym (first_own config name (take i ss)) ∙ none))
-
--- nor is it the one
-pub own_further : (config : ConfigId) (name : List ℕ) (ss : List Site) (i : ℕ) (s : Site) → i < length ss → s ≡ get_or ss i s → place_of_site config name (take i ss) ≡ None → own_test config name s ≡ false → place_of_site config name (take (i + 1) ss) ≡ None
-own_further config name ss i s lt is none e =
-    let more : take (i + 1) ss ≡ take i ss ++ s ∷ [] = take_more ss i s lt ∙ ap (λ (w : Site). take i ss ++ w ∷ []) (sym is) in
-    ap (place_of_site config name) more ∙ first_own config name (take i ss ++ s ∷ []) ∙ first_pushed (own_test config name) (take i ss) s
-    ∙ ap (λ (o : Option ℕ). or_at o (own_test config name s) (length (take i ss))) (sym (first_own config name (take i ss)) ∙ none) ∙ ap (λ (b : Bool). or_at None b (length (take i ss))) e
-
 -- one more module, for the first places of a name
 pub first_of_more : (ss : List Site) (i : ℕ) (s : Site) (name : List ℕ) (old new : Option ℕ) → i < length ss → s ≡ get_or ss i s
     → old ≡ place_named name (take i ss) → new ≡ or_at old (is_text (site_name s) name) i → new ≡ place_named name (take (i + 1) ss)
 first_of_more ss i s name old new lt is e f =
     let more : take (i + 1) ss ≡ take i ss ++ s ∷ [] = take_more ss i s lt ∙ ap (λ (w : Site). take i ss ++ w ∷ []) (sym is) in
     let long : length (take i ss) ≡ i = grind (arith, common_steps) in
-    f ∙ ap (λ (o : Option ℕ). or_at o (is_text (site_name s) name) i) (e ∙ first_named name (take i ss)) ∙ ap (λ (n : ℕ). or_at (first_where (named_test name) (take i ss)) (is_text (site_name s) name) n) (sym long)
-    ∙ sym (first_pushed (named_test name) (take i ss) s) ∙ sym (first_named name (take i ss ++ s ∷ [])) ∙ ap (place_named name) (sym more)
+    f ∙ ap (λ (o : Option ℕ). or_at o (is_text (site_name s) name) i) (e ∙ first_named name (take i ss)) ∙ ap (λ (n : ℕ). or_at (first_where (is_named name) (take i ss)) (is_text (site_name s) name) n) (sym long)
+    ∙ sym (first_pushed (is_named name) (take i ss) s) ∙ sym (first_named name (take i ss ++ s ∷ [])) ∙ ap (place_named name) (sym more)
 
 -- ---- ancestors
 

@@ -5,7 +5,7 @@ use Rattle.jl_logic.specs.Order.{IsLeast}
 use Rattle.jl_logic.proofs.Rising.{same_rising, same_least}
 use Rattle.jl_config.specs.declared.configuration.Read.{Read}
 use Rattle.jl_config.specs.declared.fault.ResolveFault.{ResolveFault}
-use Rattle.jl_config.specs.declared.fault.ResolveFault.TheVariants.{NoParents, NotFound, TooMany, Cycle, SameName, SamePackage, OwnPackage, ServicePackage, NoMemory}
+use Rattle.jl_config.specs.declared.fault.ResolveFault.TheVariants.{NoMemory}
 use Rattle.jl_config.specs.Graphs.{Graph}
 use Rattle.jl_config.specs.Located.{Asked, Scene, scene_of}
 use Rattle.jl_config.specs.Orders.{module_cmp, read_cmp}
@@ -16,26 +16,12 @@ use Rattle.jl_config.proofs.FaultOrder.{fault_total, fault_exact, modules_apart,
 -- ---- what a refusal tells
 
 pub least_told : (q : Asked) (f : ResolveFault) → f ≢ NoMemory → Resolves q (Err f) → IsLeast fault_cmp (Applies q) f
-least_told q NoParents n r = r
-least_told q (NotFound name by) n r = r
-least_told q TooMany n r = r
-least_told q (Cycle least) n r = r
-least_told q (SameName reader name) n r = r
-least_told q (SamePackage reader p one other) n r = r
-least_told q (OwnPackage reader p other) n r = r
-least_told q (ServicePackage name service) n r = r
 least_told q NoMemory n r = absurd (n refl)
+least_told q f n r = r
 
 pub told_by_least : (q : Asked) (f : ResolveFault) → IsLeast fault_cmp (Applies q) f → Resolves q (Err f)
-told_by_least q NoParents l = l
-told_by_least q (NotFound name by) l = l
-told_by_least q TooMany l = l
-told_by_least q (Cycle least) l = l
-told_by_least q (SameName reader name) l = l
-told_by_least q (SamePackage reader p one other) l = l
-told_by_least q (OwnPackage reader p other) l = l
-told_by_least q (ServicePackage name service) l = l
 told_by_least q NoMemory l = tt
+told_by_least q f l = l
 
 -- ---- two answers
 

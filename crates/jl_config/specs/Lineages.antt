@@ -1,11 +1,12 @@
 -- What the ancestors have, as lists: the words of the code that gathers them. No public clause cites these.
-use Rattle.std.specs.Prelude.{List, map}
+use Rattle.std.specs.Prelude.{ℕ, List, map, Bool, ◌&&◌}
 use Rattle.std.specs.List.{flat_map}
 use Rattle.jl_prim.specs.declared.numbers.ConfigId.{ConfigId}
 use Rattle.jl_config.specs.declared.site.Site.{Site}
 use Rattle.jl_config.specs.declared.configuration.Read.{Read}
 use Rattle.jl_config.specs.Graphs.{Graph}
-use Rattle.jl_config.specs.Located.{sites_of}
+use Rattle.jl_logic.specs.Order.{is_text}
+use Rattle.jl_config.specs.Located.{sites_of, site_name, is_numbered}
 
 abbrev pub reads_with : ConfigId → List Read → List (ConfigId × Read)
 reads_with config rs = map (λ r. (config, r)) rs
@@ -15,3 +16,17 @@ all_sites gs = flat_map (λ (g : Graph). sites_of g.id g.modules) gs
 
 abbrev pub all_reads : List Graph → List (ConfigId × Read)
 all_reads gs = flat_map (λ (g : Graph). map (λ r. (g.id, r)) g.reads) gs
+
+-- ---- reads and modules by their names
+
+abbrev pub is_reader : List ℕ → ConfigId × Read → Bool
+is_reader reader r = is_text r.1.reader reader
+
+abbrev pub is_read_in : ConfigId → List ℕ → ConfigId × Read → Bool
+is_read_in config name r = is_numbered r.0 config && is_text r.1.name name
+
+abbrev pub is_named : List ℕ → Site → Bool
+is_named name s = is_text (site_name s) name
+
+abbrev pub is_in : ConfigId → Site → Bool
+is_in config s = is_numbered s.config config

@@ -1,9 +1,7 @@
 -- The places that the closure of the set begins with, and those that each place brings in. No public clause cites these.
-use Rattle.std.specs.Prelude.{ℕ, ◌+◌, List, [], ◌∷◌, ◌++◌, map, Option, None, Some, Bool, false, ◌&&◌, ◌==◌, slice_get, unwrap_or, nat_eq, if◌then◌else◌}
+use Rattle.std.specs.Prelude.{ℕ, ◌+◌, List, [], ◌∷◌, ◌++◌, map, Option, None, Some, Bool, false, ◌&&◌, ◌==◌, slice_get, if◌then◌else◌}
 use Rattle.std.specs.List.{filter_map, flat_map}
 use Rattle.std.specs.Option.{option_map_or}
-use Rattle.std.specs.Cmp.Lexicographic.{pointwise}
-use Rattle.indexmap.specs.IndexMap.{IndexMap, get}
 use Rattle.jl_prim.specs.declared.declaration.Requires.{Requires}
 use Rattle.jl_prim.specs.declared.declaration.Provides.{Provides}
 use Rattle.jl_prim.specs.declared.declaration.Observed.{Observed}
@@ -55,10 +53,6 @@ for_service service v = if is_text v.service service then Some v.place else None
 -- the places of those that provide a service
 abbrev pub providers : List Provision → List ℕ → List ℕ
 providers vs service = filter_map (for_service service) vs
-
--- the same, of a table
-abbrev pub listed : {S : Type 0} → IndexMap (List ℕ) (List ℕ) S → List ℕ → List ℕ
-listed table service = unwrap_or (get (pointwise nat_eq) table service) []
 
 -- ---- rows and starts
 

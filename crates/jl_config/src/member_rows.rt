@@ -4,7 +4,8 @@ ghost use Rattle.std.specs.Prelude.{◌≡◌, ◌++◌, [], if◌then◌else◌
 ghost use Rattle.std.specs.List.{filter_map, flat_map};
 ghost use Rattle.std.specs.Option.{option_to_list};
 ghost use Rattle.jl_config.specs.Members.{is_base, is_followed};
-ghost use Rattle.jl_config.specs.MemberRows.{found_place, needed_place, needed_places, listed, member_row, member_rows, member_starts, above_from};
+ghost use Rattle.jl_config.specs.MemberRows.{found_place, needed_place, needed_places, member_row, member_rows, member_starts, above_from};
+ghost use Rattle.jl_config.specs.Tables.{listed};
 
 use crate::provisions::{found_place, providers_of};
 use crate::sights::Sights;

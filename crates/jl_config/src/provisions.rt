@@ -1,14 +1,12 @@
 //! Which modules provide which services (JLS 7.7.4).
 
-ghost use Rattle.std.specs.Prelude.{◌≡◌, ◌++◌, List, ℕ, false, nat_eq, IfOk, OnOk};
-ghost use Rattle.std.specs.Option.{option_to_list};
-ghost use Rattle.std.specs.Cmp.Lexicographic.{pointwise};
-ghost use Rattle.indexmap.specs.IndexMap.{get};
-ghost use Rattle.jl_logic.specs.Order.{is_text};
-ghost use Rattle.jl_config.specs.MemberRows.{found_place, here_at, is_place, provided_by, provisions_of, provisions_from, offers, for_service, providers, listed};
+ghost use Rattle.std.specs.Prelude.{◌≡◌, ◌++◌, List, ℕ, IfOk, OnOk};
+ghost use Rattle.jl_config.specs.MemberRows.{found_place, here_at, is_place, provided_by, provisions_of, provisions_from, offers, providers};
+ghost use Rattle.jl_config.specs.Tables.{listed};
 
 use crate::sights::Sights;
 use crate::site::Site;
+use crate::tables::note_place;
 use indexmap::IndexMap;
 use jl_prim::{Copied, CopyEnd, Items, Name, Provides};
 use std::alloc::Global;
@@ -57,7 +55,7 @@ fn table_of(
 {
     let mut table = IndexMap::new(alloc);
     for provision in provisions {
-        note_provider(alloc, &mut table, provision)?;
+        note_place(alloc, &mut table, &provision.service, provision.place)?;
     }
     Ok(table)
 }
@@ -111,27 +109,4 @@ fn push_provisions(
         all.push(Provision { service, place })?;
     }
     Ok(())
-}
-
-fn note_provider(
-    alloc: Global,
-    table: &mut IndexMap<Name, Items<usize>>,
-    provision: &Provision,
-) -> Result<(), CopyEnd>
-    ensures { OnOk result ((q : List ℕ) → listed table.new q ≡ listed table.old q ++ option_to_list (for_service q provision.now)) }
-{
-    let mut places = taken(alloc, table, &provision.service).into_vec();
-    places.push(provision.place)?;
-    table.insert(provision.service.copy()?, Items::from_vec(places))?;
-    Ok(())
-}
-
-fn taken(alloc: Global, table: &mut IndexMap<Name, Items<usize>>, service: &Name) -> Items<usize>
-    ensures places { result ≡ listed table.old service.now }
-    ensures others { (q : List ℕ) → is_text service.now q ≡ false → get (pointwise nat_eq) table.new q ≡ get (pointwise nat_eq) table.old q }
-{
-    match table.swap_remove(service) {
-        Some(places) => places,
-        None => Items::new(alloc),
-    }
 }

@@ -1,18 +1,19 @@
 //! What is in sight of a resolution.
 
-ghost use Rattle.std.specs.Prelude.{◌≡◌, ◌≤◌, ℕ, List, length, nat_eq, IfOk, ◌&&◌};
-ghost use Rattle.std.specs.Option.{option_copied};
+ghost use Rattle.std.specs.Prelude.{◌≡◌, ◌≤◌, ℕ, List, length, nat_eq, slice_get, false, IfOk};
+ghost use Rattle.std.specs.Option.{option_copied, option_map_or};
 ghost use Rattle.std.specs.Cmp.Lexicographic.{pointwise};
 ghost use Rattle.indexmap.specs.IndexMap.{get};
-ghost use Rattle.jl_config.specs.Located.{scene_of, is_here, is_numbered, site_name, find_read};
-ghost use Rattle.jl_logic.specs.Order.{is_text};
+ghost use Rattle.jl_config.specs.Lineages.{is_reader, is_read_in, is_named, is_in};
+ghost use Rattle.jl_config.specs.Located.{scene_of, is_here, find_read};
 ghost use Rattle.jl_config.specs.Places.{place_named, place_of_site, own_place};
 ghost use Rattle.jl_config.specs.Resolves.{asked};
+ghost use Rattle.jl_config.specs.Tables.{listed, places_where, first_of_places};
 
 use crate::ancestors::push_ancestors;
 use crate::configuration::{Configuration, Read};
 use crate::site::{Site, push_sites};
-use crate::tables::note_first;
+use crate::tables::{note_first, note_place};
 use indexmap::IndexMap;
 use jl_prim::{ConfigId, Copied, CopyEnd, Found, Items, Name};
 use std::alloc::Global;
@@ -26,7 +27,11 @@ pub struct Sights {
     reads: Vec<(ConfigId, Read)>,
     roots: Items<Name>,
     binds: bool,
+    // The first place of each name.
     places: IndexMap<Name, usize>,
+    // Where in `reads` the entries of each reader stand, and where in `sites` the modules of each name.
+    readers: IndexMap<Name, Items<usize>>,
+    named: IndexMap<Name, Items<usize>>,
 }
 
 impl Model for Sights {
@@ -34,13 +39,17 @@ impl Model for Sights {
     ghost use Rattle.std.specs.Cmp.Lexicographic.{pointwise};
     ghost use Rattle.indexmap.specs.IndexMap.{get};
     ghost use Rattle.jl_config.specs.Located.{Scene};
+    ghost use Rattle.jl_config.specs.Lineages.{is_reader, is_named};
     ghost use Rattle.jl_config.specs.Places.{place_named};
+    ghost use Rattle.jl_config.specs.Tables.{listed, places_where};
 
     ghost Value = { Scene };
 
     ghost view = { λ w. record { id = w.id; sites = w.sites.items; reads = w.reads.items; roots = w.roots; binds = w.binds } };
 
-    ghost invariant = { λ w. (name : List ℕ) → get (pointwise nat_eq) w.places name ≡ place_named name w.sites.items };
+    ghost invariant = { λ w. ((name : List ℕ) → get (pointwise nat_eq) w.places name ≡ place_named name w.sites.items)
+        × ((reader : List ℕ) → listed w.readers reader ≡ places_where (is_reader reader) 0 w.reads.items)
+        × ((name : List ℕ) → listed w.named name ≡ places_where (is_named name) 0 w.sites.items) };
 }
 
 impl Sights {
@@ -65,6 +74,8 @@ impl Sights {
         push_ancestors(&mut sites, &mut reads, known, parents)?;
         push_sites(&mut sites, id, after.modules.as_slice())?;
         let places = first_places(alloc, sites.as_slice())?;
+        let readers = places_by_reader(alloc, reads.as_slice())?;
+        let named = places_by_name(alloc, sites.as_slice())?;
         let roots = Items::from_vec(copies_of(alloc, roots)?);
         Ok(Sights {
             id,
@@ -73,6 +84,8 @@ impl Sights {
             roots,
             binds: bind,
             places,
+            readers,
+            named,
         })
     }
 
@@ -116,9 +129,26 @@ impl Sights {
     pub fn own(&self, site: &Site, name: &Name) -> Option<usize>
         ensures { result ≡ own_place self.now site.now name.now }
     {
-        let reader = &site.observed.declaration.name;
-        let read = read_by(self.reads.as_slice(), site.config, reader, name)?;
-        place_of(self.sites.as_slice(), read.config, &read.name)
+        let read = self.read_by(site.config, &site.observed.declaration.name, name)?;
+        self.place_of(read.config, &read.name)
+    }
+
+    // The first entry of a configuration by which a reader reads a name.
+    fn read_by(&self, config: ConfigId, reader: &Name, name: &Name) -> Option<&Read>
+        ensures { option_copied result ≡ find_read config reader.now name.now self.now.reads }
+    {
+        let places = self.readers.get(reader)?;
+        let at = first_read(self.reads.as_slice(), places.as_slice(), config, name)?;
+        let entry = self.reads.get(at)?;
+        Some(&entry.1)
+    }
+
+    // The first place of a configuration's module with a name.
+    fn place_of(&self, config: ConfigId, name: &Name) -> Option<usize>
+        ensures { result ≡ place_of_site config name.now self.now.sites }
+    {
+        let places = self.named.get(name)?;
+        first_in(self.sites.as_slice(), places.as_slice(), config)
     }
 }
 
@@ -143,37 +173,74 @@ fn first_places(alloc: Global, sites: &[Site]) -> Result<IndexMap<Name, usize>, 
     Ok(places)
 }
 
-/// The first entry of a configuration by which a reader reads a name.
-fn read_by<'a>(
-    reads: &'a [(ConfigId, Read)],
-    config: ConfigId,
-    reader: &Name,
-    name: &Name,
-) -> Option<&'a Read>
-    ensures { option_copied result ≡ find_read config reader.now name.now reads.now }
+/// The places of the entries of each reader.
+fn places_by_reader(
+    alloc: Global,
+    reads: &[(ConfigId, Read)],
+) -> Result<IndexMap<Name, Items<usize>>, CopyEnd>
+    ensures { IfOk result (λ table. (reader : List ℕ) → listed table reader ≡ places_where (is_reader reader) 0 reads.now) }
 {
-    for (from, read) in reads {
-        if from.0 == config.0 && read.reader == *reader && read.name == *name {
-            return Some(read);
-        }
+    let mut table = IndexMap::new(alloc);
+    for (at, entry) in reads.iter().enumerate() {
+        note_place(alloc, &mut table, &entry.1.reader, at)?;
     }
-    None
+    Ok(table)
 }
 
-/// The first place of a configuration's module with a name.
-fn place_of(sites: &[Site], config: ConfigId, name: &Name) -> Option<usize>
-    ensures { result ≡ place_of_site config name.now sites.now }
+/// The places of each name.
+fn places_by_name(alloc: Global, sites: &[Site]) -> Result<IndexMap<Name, Items<usize>>, CopyEnd>
+    ensures { IfOk result (λ table. (name : List ℕ) → listed table name ≡ places_where (is_named name) 0 sites.now) }
 {
+    let mut table = IndexMap::new(alloc);
     for (at, site) in sites.iter().enumerate() {
-        if is_site(site, config, name) {
-            return Some(at);
+        note_place(alloc, &mut table, &site.observed.declaration.name, at)?;
+    }
+    Ok(table)
+}
+
+/// Of some entries the first of a configuration by which a name is read.
+fn first_read(
+    reads: &[(ConfigId, Read)],
+    places: &[usize],
+    config: ConfigId,
+    name: &Name,
+) -> Option<usize>
+    ensures { result ≡ first_of_places (is_read_in config name.now) reads.now places.now }
+{
+    for place in places {
+        if is_read_at(reads, *place, config, name) {
+            return Some(*place);
         }
     }
     None
 }
 
-fn is_site(site: &Site, config: ConfigId, name: &Name) -> bool
-    ensures { result ≡ (is_numbered site.now.config config && is_text (site_name site.now) name.now) }
+fn is_read_at(reads: &[(ConfigId, Read)], place: usize, config: ConfigId, name: &Name) -> bool
+    ensures { result ≡ option_map_or (is_read_in config name.now) (slice_get reads.now place) false }
 {
-    site.config.0 == config.0 && site.observed.declaration.name == *name
+    match reads.get(place) {
+        Some(entry) => entry.0.0 == config.0 && entry.1.name == *name,
+        None => false,
+    }
+}
+
+/// Of some places the first of a configuration's module.
+fn first_in(sites: &[Site], places: &[usize], config: ConfigId) -> Option<usize>
+    ensures { result ≡ first_of_places (is_in config) sites.now places.now }
+{
+    for place in places {
+        if is_in_at(sites, *place, config) {
+            return Some(*place);
+        }
+    }
+    None
+}
+
+fn is_in_at(sites: &[Site], place: usize, config: ConfigId) -> bool
+    ensures { result ≡ option_map_or (is_in config) (slice_get sites.now place) false }
+{
+    match sites.get(place) {
+        Some(site) => site.config.0 == config.0,
+        None => false,
+    }
 }

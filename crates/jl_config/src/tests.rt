@@ -282,6 +282,10 @@ fn parents(rt: HostRuntime) -> Result<(), Fail> {
     let rows = [
         (["-", "", "a", "a"], "NoParents"),
         ([xy, "r x y;x", "", "r"], "SameName r x"),
+        (
+            ["v;x;y +x +v", "r x v y;q x v y;x;v", "", "r q"],
+            "SameName q v",
+        ),
         ([xy, "r y java.base;x", "", "r"], "r: java.base r x y;"),
         ([xy, "", "x;r x", "r"], "r: r x;"),
         ([xy, "", "x", "x"], ""),

@@ -5,7 +5,7 @@ use Rattle.jl_config.specs.declared.fault.ResolveFault.{ResolveFault}
 use Rattle.jl_config.specs.Places.{CycleFault}
 use Rattle.jl_config.specs.Refusals.{fault_cmp}
 use Rattle.jl_config.specs.Rounds.{edge_rows, IsFirstRound}
-use Rattle.jl_config.proofs.CyclePlaces.{edges_within, edges_long, no_cycle, cycle_right, first_within}
+use Rattle.jl_config.proofs.CyclePlaces.{edges_within, no_cycle, cycle_right, first_within}
 use Rattle.jl_config.proofs.circle.least_cycle.Goals as goal
 
 pub first_round-requires-clause-graph : goal.first_round-requires-clause-graph
@@ -13,7 +13,7 @@ first_round-requires-clause-graph c =
     let w = c.args.sights.now in
     let marks = c.args.members.now.marks.items in
     let e : c.as_slice-2.result.now ≡ edge_rows w marks = c.as_slice-2.ensures.value ∙ c.in_ok-rows.ensures ∙ ap (edge_rows w) c.as_slice.ensures.value in
-    subst (λ (n : List (List ℕ)). All (λ row. All (λ p. p < length n) row) n) (sym e) (subst (λ (n : ℕ). All (λ row. All (λ p. p < n) row) (edge_rows w marks)) (sym (edges_long w marks c.requires.marks)) (edges_within w marks c.requires.marks))
+    subst (λ (n : List (List ℕ)). All (λ row. All (λ p. p < length n) row) n) (sym e) (edges_within w marks c.requires.marks)
 
 -- what the search found, over the rows of the scene
 as_found : (rows rows_seen : List (List ℕ)) (ps ps_seen : List ℕ) (found other : Option ℕ) → rows_seen ≡ rows → ps_seen ≡ ps → found ≡ other → IsFirstRound rows_seen ps_seen found → IsFirstRound rows ps other

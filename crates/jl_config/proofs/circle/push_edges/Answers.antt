@@ -1,5 +1,5 @@
 use Rattle.jl_config.specs.Rounds.{edge_place}
-use Rattle.jl_config.proofs.MemberLists.{filter_map_behind, grown}
+use Rattle.jl_config.proofs.Lists.{filter_map_behind, grown}
 use Rattle.jl_config.proofs.circle.push_edges.Goals as goal
 
 pub loop-entry-preserved : goal.loop-entry-preserved

@@ -1,22 +1,22 @@
-use Rattle.std.proofs.Common.{◌≡◌, ◌≢◌, ◌∙◌, sym, ap, get_or, Some, slice_get}
+use Rattle.std.proofs.Common.{◌≡◌, ◌≢◌, ◌∙◌, sym, Some, slice_get}
 use Rattle.jl_config.specs.Imported.{IsExportedAt, IsExportedBy}
 use Rattle.jl_config.specs.Located.{site_name}
 use Rattle.jl_config.specs.ReadRows.{name_at}
+use Rattle.jl_config.proofs.Lists.{item_here}
 use Rattle.jl_config.proofs.Collects.{adds_none, adds_same}
-use Rattle.jl_config.proofs.ReadFinds.{text_same, text_differs}
-use Rattle.jl_config.proofs.ReadOrders.{site_here}
+use Rattle.jl_config.proofs.Names.{text_is, text_differs}
 use Rattle.jl_config.proofs.ImportLists.{own_exports_nothing, exported_here, here_exported}
 use Rattle.jl_config.proofs.imports.push_exports_at.Goals as goal
 
 pub returns-then-eq : goal.returns-then-eq
 returns-then-eq c =
-    let at : slice_get c.args.sights.now.sites c.args.place ≡ Some c.index-sites-place.result = site_here c.args.sights.now c.args.place c.index-sites-place.result c.requires.place (c.index-sites-place.is ∙ ap (λ l. get_or l c.args.place c.index-sites-place.result) c.sites.ensures) in
+    let at : slice_get c.args.sights.now.sites c.args.place ≡ Some c.index-sites-place.result = item_here c.args.sights.now.sites c.sites.result.now c.args.place c.index-sites-place.result c.sites.ensures c.requires.place c.index-sites-place.is in
     adds_none _ (IsExportedAt c.args.sights.now c.args.reader c.args.place) (own_exports_nothing c.args.sights.now c.args.reader c.args.place c.index-sites-place.result at
-    (text_same (site_name c.index-sites-place.result) c.name_at-name.result.now (sym c.eq.ensures ∙ c.if-eq.true) ∙ c.name_at-name.ensures))
+    (text_is (site_name c.index-sites-place.result) c.name_at-name.result.now (sym c.eq.ensures ∙ c.if-eq.true) ∙ c.name_at-name.ensures))
 
 pub returns : goal.returns
 returns c =
-    let at : slice_get c.args.sights.now.sites c.args.place ≡ Some c.index-sites-place.result = site_here c.args.sights.now c.args.place c.index-sites-place.result c.requires.place (c.index-sites-place.is ∙ ap (λ l. get_or l c.args.place c.index-sites-place.result) c.sites.ensures) in
+    let at : slice_get c.args.sights.now.sites c.args.place ≡ Some c.index-sites-place.result = item_here c.args.sights.now.sites c.sites.result.now c.args.place c.index-sites-place.result c.sites.ensures c.requires.place c.index-sites-place.is in
     let other : site_name c.index-sites-place.result ≢ name_at c.args.sights.now c.args.reader = λ e.
     text_differs (site_name c.index-sites-place.result) c.name_at-name.result.now (sym c.eq.ensures ∙ c.if-eq.false) (e ∙ sym c.name_at-name.ensures) in
     adds_same _ _ (IsExportedBy (name_at c.args.sights.now c.args.reader) c.index-sites-place.result) (IsExportedAt c.args.sights.now c.args.reader c.args.place)

@@ -1,7 +1,7 @@
 use Rattle.std.proofs.Common.{◌<◌, ◌∙◌, ap, subst, length, get_or, List}
 use Rattle.jl_prim.specs.declared.declaration.Requires.{Requires}
 use Rattle.jl_config.specs.MemberRows.{needed_place}
-use Rattle.jl_config.proofs.MemberLists.{filter_map_behind, grown}
+use Rattle.jl_config.proofs.Lists.{filter_map_behind, grown}
 use Rattle.jl_config.proofs.member_rows.push_needed.Goals as goal
 
 pub loop-entry-preserved : goal.loop-entry-preserved

@@ -1,6 +1,6 @@
 use Rattle.std.proofs.Common.{◌<◌, ◌∙◌, ap, subst, length, get_or, List, ℕ}
 use Rattle.jl_config.specs.MemberRows.{found_place}
-use Rattle.jl_config.proofs.MemberLists.{filter_map_step, grown}
+use Rattle.jl_config.proofs.Lists.{filter_map_step, grown}
 use Rattle.jl_config.proofs.member_rows.roots_found.Goals as goal
 
 pub loop-name-preserved : goal.loop-name-preserved

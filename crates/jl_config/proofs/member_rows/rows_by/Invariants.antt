@@ -1,5 +1,6 @@
 use Rattle.std.proofs.Common.{◌≡◌, take, map}
-use Rattle.jl_config.specs.MemberRows.{listed, member_row}
+use Rattle.jl_config.specs.MemberRows.{member_row}
+use Rattle.jl_config.specs.Tables.{listed}
 use Rattle.jl_config.proofs.member_rows.rows_by.Given as goal
 
 abbrev pub invariant-loop-site : goal.invariant-loop-site

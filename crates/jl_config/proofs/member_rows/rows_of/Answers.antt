@@ -1,6 +1,7 @@
 use Rattle.std.proofs.Common.{◌≡◌, ◌∙◌, map}
 use Rattle.std.proofs.lemmas.Result.{IfOk-weaker}
-use Rattle.jl_config.specs.MemberRows.{listed, member_row, member_rows}
+use Rattle.jl_config.specs.MemberRows.{member_row, member_rows}
+use Rattle.jl_config.specs.Tables.{listed}
 use Rattle.jl_config.proofs.member_rows.rows_of.Goals as goal
 
 pub returns : goal.returns

@@ -3,21 +3,21 @@ use Rattle.std.proofs.lemmas.Result.{IfOk-weaker}
 use Rattle.jl_closure.specs.Reached.{AreMarksOf}
 use Rattle.jl_config.specs.MemberRows.{cleared, member_rows, member_starts}
 use Rattle.jl_config.specs.Places.{AreMarks}
-use Rattle.jl_config.proofs.MemberChains.{marks_right, rows_within, starts_within, rows_long}
+use Rattle.jl_config.proofs.MemberChains.{marks_right, rows_within, starts_within}
 use Rattle.jl_config.proofs.members.marks_of.Goals as goal
 
 pub closure-requires-clause-graph : goal.closure-requires-clause-graph
 closure-requires-clause-graph c =
     let w = c.args.sights.now in
     let e : c.as_slice.result.now ≡ member_rows w = c.as_slice.ensures.value ∙ c.in_ok-rows.ensures in
-    subst (λ (n : List (List ℕ)). All (λ row. All (λ p. p < length n) row) n) (sym e) (subst (λ (n : ℕ). All (λ row. All (λ p. p < n) row) (member_rows w)) (sym (rows_long w)) (rows_within w))
+    subst (λ (n : List (List ℕ)). All (λ row. All (λ p. p < length n) row) n) (sym e) (rows_within w)
 
 pub closure-requires-clause-within : goal.closure-requires-clause-within
 closure-requires-clause-within c =
     let w = c.args.sights.now in
     let e : c.as_slice.result.now ≡ member_rows w = c.as_slice.ensures.value ∙ c.in_ok-rows.ensures in
     let f : c.as_slice-2.result.now ≡ member_starts w = c.as_slice-2.ensures.value ∙ c.in_ok-starts.ensures in
-    subst (λ (n : List (List ℕ)). All (λ p. p < length n) c.as_slice-2.result.now) (sym e) (subst (λ (l : List ℕ). All (λ p. p < length (member_rows w)) l) (sym f) (subst (λ (n : ℕ). All (λ p. p < n) (member_starts w)) (sym (rows_long w)) (starts_within w)))
+    subst (λ (n : List (List ℕ)). All (λ p. p < length n) c.as_slice-2.result.now) (sym e) (subst (λ (l : List ℕ). All (λ p. p < length (member_rows w)) l) (sym f) (starts_within w))
 
 pub returns : goal.returns
 returns c =

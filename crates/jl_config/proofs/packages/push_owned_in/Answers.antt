@@ -1,8 +1,9 @@
 use Rattle.std.proofs.Common.{◌≡◌, subst, Some, slice_get}
 use Rattle.jl_config.specs.Collected.{Adds, Among}
 use Rattle.jl_config.specs.Imported.{IsOwned, IsOwnedIn}
+use Rattle.jl_config.proofs.Lists.{item_here}
 use Rattle.jl_config.proofs.Collects.{among_more, among_all, adds_same}
-use Rattle.jl_config.proofs.PackageFaults.{item_here, owned_in, owned_from, import_within}
+use Rattle.jl_config.proofs.PackageFaults.{owned_in, owned_from, import_within}
 use Rattle.jl_config.proofs.packages.push_owned_in.Goals as goal
 
 pub loop-exported-preserved : goal.loop-exported-preserved

@@ -1,5 +1,5 @@
 use Rattle.jl_config.specs.ReadRows.{marked_place}
-use Rattle.jl_config.proofs.ReadLists.{filter_map_step, grown}
+use Rattle.jl_config.proofs.Lists.{filter_map_step, grown}
 use Rattle.jl_config.proofs.readings.marked_places.Goals as goal
 
 pub loop-placed-preserved : goal.loop-placed-preserved

@@ -1,5 +1,5 @@
 use Rattle.jl_config.specs.ReadRows.{passed_place}
-use Rattle.jl_config.proofs.ReadLists.{filter_map_step, grown}
+use Rattle.jl_config.proofs.Lists.{filter_map_step, grown}
 use Rattle.jl_config.proofs.readings.places_passed_on.Goals as goal
 
 pub loop-entry-preserved : goal.loop-entry-preserved

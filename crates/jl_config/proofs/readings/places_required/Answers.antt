@@ -1,6 +1,6 @@
 use Rattle.jl_prim.specs.declared.declaration.Requires.{Requires}
 use Rattle.jl_config.specs.ReadRows.{meant_place}
-use Rattle.jl_config.proofs.ReadLists.{filter_map_step, grown}
+use Rattle.jl_config.proofs.Lists.{filter_map_step, grown}
 use Rattle.jl_config.proofs.readings.places_required.Goals as goal
 
 pub loop-entry-preserved : goal.loop-entry-preserved

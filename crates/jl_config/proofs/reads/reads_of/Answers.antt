@@ -1,5 +1,5 @@
 use Rattle.jl_config.specs.ReadRows.{reads_in}
-use Rattle.jl_config.proofs.ReadLists.{flat_map_step}
+use Rattle.jl_config.proofs.Lists.{flat_map_step}
 use Rattle.jl_config.proofs.Collects.{item_among}
 use Rattle.jl_config.proofs.AllReads.{all_reads}
 use Rattle.jl_config.proofs.reads.reads_of.Goals as goal

@@ -1,8 +1,9 @@
 use Rattle.std.proofs.Common.{◌≡◌, subst, Some, slice_get}
 use Rattle.jl_config.specs.Collected.{Adds, Among}
 use Rattle.jl_config.specs.Imported.{IsUnseen, IsUnseenProvided, IsUnseenIn}
+use Rattle.jl_config.proofs.Lists.{item_here}
 use Rattle.jl_config.proofs.Collects.{adds_then}
-use Rattle.jl_config.proofs.PackageFaults.{item_here, import_within}
+use Rattle.jl_config.proofs.PackageFaults.{import_within}
 use Rattle.jl_config.proofs.ServiceFaults.{used_in, provided_in, unseen_from}
 use Rattle.jl_config.proofs.services.push_unseen_in.Goals as goal
 
