@@ -1,11 +1,10 @@
 -- Whole code: what is read is spelled so, and what is spelled so is read.
 use Rattle.std.proofs.Common.{◌≡◌, ℕ, zero, suc, ◌+◌, ◌≤◌, ◌<◌, inl, inr, Bool, true, false, not, cond, ltb, List, [], ◌∷◌, ◌++◌, length, map, append_assoc, Option, None, Some, Result, Ok, Err, refl, sym, ap, subst, ◌∙◌, arith}
-use Rattle.std.specs.Prelude.{IsTrue, position, IfOk, ◌↔◌}
+use Rattle.std.specs.Prelude.{IsTrue, position}
 use Rattle.std.specs.Option.{option_map}
 use Rattle.std.specs.List.{list_all, prefix_len}
 use Rattle.std.proofs.lemmas.Bool.{cond_both, ltb-false, lt-ltb, le-ltb, and_from, and_parts}
 use Rattle.std.proofs.lemmas.List.{append-nil}
-use Rattle.jl_logic.specs.Answers.{Gives}
 use Rattle.jl_reading.specs.Reading.{IsBytes}
 use Rattle.jl_reading.proofs.Steps.{ok_is}
 use Rattle.jl_prim.specs.declared.declaration.Handler.{Handler}
@@ -15,7 +14,6 @@ use Rattle.jl_code.specs.declared.fault.CodeFault.TheVariants as faults
 use Rattle.jl_code.specs.declared.code.Instr.{Instr}
 use Rattle.jl_code.specs.declared.code.Code.{Code}
 use Rattle.jl_code.specs.declared.walking.Walked.{Walked}
-use Rattle.jl_code.specs.Told.{told}
 use Rattle.jl_code.specs.Instructions.{instr_at}
 use Rattle.jl_code.specs.Places.{places_from, places, stands}
 use Rattle.jl_code.specs.Walking.{up_to, walk_on, walk}
