@@ -7,7 +7,8 @@ use Rattle.std.specs.Str.{NoCharPasses}
 use Rattle.std.proofs.lemmas.Bool.{eqb-true, true≢false, le-ltb, lt-ltb, ltb-true, ltb-false}
 use Rattle.std.proofs.lemmas.List.{append_assoc, take-append-drop}
 use Rattle.std.proofs.lemmas.Str.Pattern.{IsSplitOnceResult, split_parts, NoCharPasses-char, drop_at_char}
-use Rattle.jl_words.specs.Values.{is_empty, with_first, split, path_parts, listed, spelled}
+use Rattle.jl_names.specs.Names.{is_empty, with_first}
+use Rattle.jl_words.specs.Values.{split, path_parts, listed, spelled}
 use Rattle.jl_words.specs.Reading.{parted, parted_last}
 
 -- none of the bytes is c
