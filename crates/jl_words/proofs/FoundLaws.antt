@@ -2,7 +2,7 @@
 use Rattle.std.proofs.Common.{◌≡◌, ℕ, suc, ◌+◌, ◌<◌, ◌≤◌, nat_lt, nat_le, List, [], ◌∷◌, ◌++◌, length, map, drop, Bool, true, false, not, cond, ◌&&◌, IsTrue, Option, None, Some, Result, Ok, Err, refl, sym, ap, subst, ◌∙◌, arith}
 use Rattle.std.specs.Prelude.{slice_get, position, codes, IfOk}
 use Rattle.std.specs.List.{list_all, flat_map, AllByRecursion, prefix_len}
-use Rattle.std.proofs.lemmas.Bool.{true≢false, le-ltb, lt-ltb, ltb-true, ltb-false, leb-true, le-leb, and_parts}
+use Rattle.std.proofs.lemmas.Bool.{true≢false, le-ltb, lt-ltb, ltb-true, ltb-false, leb-true, le-leb, ne_eqb, and_parts}
 use Rattle.std.proofs.lemmas.Option.{none-some, same_Some}
 use Rattle.std.proofs.lemmas.List.{length-append, length-drop, length-map, drop_all}
 use Rattle.jl_logic.specs.Answers.{Gives}
@@ -12,6 +12,7 @@ use Rattle.jl_prim.specs.Names.{names_a_module}
 use Rattle.jl_names.specs.Names.{is_empty}
 use Rattle.jl_reading.specs.Reading.{◌>>=◌}
 use Rattle.jl_reading.proofs.Steps.{bind_ok, ok_is}
+use Rattle.jl_reading.proofs.Whole.{found_in, only_in}
 use Rattle.jl_words.specs.declared.command.Command.{Command}
 use Rattle.jl_words.specs.declared.command.RunWords.{RunWords}
 use Rattle.jl_words.specs.declared.command.Command.TheVariants.{Resolve, Run, Sample}
@@ -25,7 +26,6 @@ use Rattle.jl_words.specs.Settings.{verb_text}
 use Rattle.jl_words.specs.Values.{number_of, IsNumber, IsAdded, is_digit}
 use Rattle.jl_words.specs.Line.{Use, use_words, AreOperands, begins_with_dash, IsResolve, IsRun, IsSample, IsCommand, IsLine, is_some_use, uses_of, usual_steps, IsBound}
 use Rattle.jl_words.specs.Reading.{told, nothing, target_of, verb_of, verb_or, or_none, roots_or, run_words, number_or, is_option, options_from, operands_at, resolve_at, run_at, sample_at, line_read}
-use Rattle.jl_words.proofs.Cutting.{differs}
 use Rattle.jl_words.proofs.ValueLaws.{number_is, number_found, target_is, target_found}
 use Rattle.jl_words.proofs.UseLaws.{err_ok, same_text, at_word, from_word}
 use Rattle.jl_words.proofs.GivenLaws.{put_all, Ready, Uses, from_options, into_options, uses_few, head_at}
@@ -157,8 +157,7 @@ sample_found words at number limit n bound first second counts few bounds last =
 
 verb_found : (verb : Verb) → verb_of (verb_text verb) ≡ Some verb
 verb_found verbs.Resolve = refl
-verb_found verbs.Run = refl
-verb_found verbs.Sample = refl
+verb_found _ = refl
 
 tested : (word : List ℕ) (t s : Verb) (rest : Option Verb) → (rest ≡ Some s → word ≡ verb_text s) → cond (is_text word (verb_text t)) (Some t) rest ≡ Some s → word ≡ verb_text s
 tested word t s rest later e = by (is_text word (verb_text t)) refl e
@@ -277,7 +276,7 @@ digits_stop (b ∷ bs) n is =
     let digits = and_parts (nat_le (length (b ∷ bs)) 20) (list_all is_digit (b ∷ bs)) (and_parts (not (is_empty (b ∷ bs))) (nat_le (length (b ∷ bs)) 20 && list_all is_digit (b ∷ bs)) is.digits).1 in
     let digit = and_parts (is_digit b) (list_all is_digit bs) digits.1 in
     let low : 48 ≤ b = leb-true 48 b (and_parts (nat_le 48 b) (nat_le b 57) digit.0).0 in
-    differs b 45 (λ e. omega (arith, low, e))
+    ne_eqb b 45 (λ e. omega (arith, low, e))
 
 resolve_into : (words elements add roots : List (List ℕ)) → IsResolve words elements add roots → line_read words ≡ Ok (Resolve elements add roots)
 unfolding Into
@@ -327,11 +326,7 @@ line_into words (Sample n bound) is = sample_into words n bound is
 
 module _ {W : Type 0} (f : W → List ℕ) (ws : List W) (r : Result Command WordFault) (few : length ws ≤ 65536) where
   pub found_few : Gives told (λ x. x) r (line_read (map f ws)) → IfOk r (λ c. IsLine (map f ws) c)
-  found_few h = by r h
-    where
-      by : (r : Result Command WordFault) → Gives told (λ x. x) r (line_read (map f ws)) → IfOk r (λ c. IsLine (map f ws) c)
-      by (Ok c) h = record { few = omega (arith, few, length-map ws f); command = line_found (map f ws) c h }
-      by (Err e) h = tt
+  found_few = found_in (line_read (map f ws)) (IsLine (map f ws)) told (λ x. x) r (λ c e. record { few = omega (arith, few, length-map ws f); command = line_found (map f ws) c e })
 
   pub only_few : Gives told (λ x. x) r (line_read (map f ws)) → (c : Command) → IsLine (map f ws) c → Gives told (λ x. x) r (Ok c)
-  only_few h c is = subst (λ d. Gives told (λ x. x) r d) (line_into (map f ws) c is.command) h
+  only_few = only_in (line_read (map f ws)) (IsLine (map f ws)) told (λ x. x) r (λ c is. line_into (map f ws) c is.command)
