@@ -1,11 +1,10 @@
 -- Whole code: what is read is spelled so, and what is spelled so is read.
-use Rattle.std.proofs.Common.{◌≡◌, ℕ, zero, suc, ◌+◌, ◌≤◌, ◌<◌, inl, inr, Bool, true, false, not, cond, ltb, List, [], ◌∷◌, ◌++◌, length, map, append_assoc, Option, None, Some, Result, Ok, Err, refl, sym, ap, subst, ◌∙◌, arith}
-use Rattle.std.specs.Prelude.{IsTrue, position, IfOk, ◌↔◌}
+use Rattle.std.proofs.Common.{◌≡◌, ℕ, zero, suc, ◌+◌, ◌≤◌, ◌<◌, inl, inr, Bool, not, cond, ltb, List, [], ◌∷◌, ◌++◌, length, map, append_assoc, Option, None, Some, Result, Ok, Err, refl, sym, ap, subst, ◌∙◌, arith}
+use Rattle.std.specs.Prelude.{IsTrue, position}
 use Rattle.std.specs.Option.{option_map}
 use Rattle.std.specs.List.{list_all, prefix_len}
-use Rattle.std.proofs.lemmas.Bool.{cond_both, ltb-false, lt-ltb, le-ltb, and_from, and_parts}
+use Rattle.std.proofs.lemmas.Bool.{cond_both, ltb-false, lt-ltb, le-ltb, and_from, and_parts, not-true, not-false}
 use Rattle.std.proofs.lemmas.List.{append-nil}
-use Rattle.jl_logic.specs.Answers.{Gives}
 use Rattle.jl_reading.specs.Reading.{IsBytes}
 use Rattle.jl_reading.proofs.Steps.{ok_is}
 use Rattle.jl_prim.specs.declared.declaration.Handler.{Handler}
@@ -15,7 +14,6 @@ use Rattle.jl_code.specs.declared.fault.CodeFault.TheVariants as faults
 use Rattle.jl_code.specs.declared.code.Instr.{Instr}
 use Rattle.jl_code.specs.declared.code.Code.{Code}
 use Rattle.jl_code.specs.declared.walking.Walked.{Walked}
-use Rattle.jl_code.specs.Told.{told}
 use Rattle.jl_code.specs.Instructions.{instr_at}
 use Rattle.jl_code.specs.Places.{places_from, places, stands}
 use Rattle.jl_code.specs.Walking.{up_to, walk_on, walk}
@@ -96,23 +94,16 @@ unless_ok : (o : Option CodeFault) (r : Result Code CodeFault) (c : Code) → un
 unless_ok (Some f) r c e = absurd cc
 unless_ok None r c e = (refl, e)
 
-map_none : {A : Type 0} (f : A → CodeFault) (o : Option A) → option_map f o ≡ None → o ≡ None
+map_none : {A B : Type 0} (f : A → B) (o : Option A) → option_map f o ≡ None → o ≡ None
 map_none f (Some x) e = absurd cc
 map_none f None e = refl
-
-at_none : (o : Option Instr) → option_map (λ i. i.at) o ≡ None → o ≡ None
-at_none (Some i) e = absurd cc
-at_none None e = refl
 
 first_none : (test : Instr → Bool) (is : List Instr) → first_where (λ i. not (test i)) is ≡ None → IsTrue (list_all test is)
 unfolding first_where
 first_none test [] e = refl
 first_none test (i ∷ is) e0 =
     cond_both (not (test i)) (Some i) (first_where (λ i. not (test i)) is) (λ o. o ≡ None → IsTrue (list_all test (i ∷ is)))
-    (λ n e. absurd cc) (λ t e. and_from (test i) (list_all test is) (sym (not_not (test i)) ∙ ap not t) (first_none test is e)) e0 where
-      not_not : (b : Bool) → not (not b) ≡ b
-      not_not true = refl
-      not_not false = refl
+    (λ n e. absurd cc) (λ t e. and_from (test i) (list_all test is) (not-false (test i) t) (first_none test is e)) e0
 
 first_all : (test : Instr → Bool) (is : List Instr) → IsTrue (list_all test is) → first_where (λ i. not (test i)) is ≡ None
 unfolding first_where
@@ -123,10 +114,7 @@ all_long : (right : Handler → Bool) (hs : List Handler) → length hs ≤ pref
 all_long right [] le = refl
 all_long right (h ∷ hs) le0 =
     cond_both (not (not (right h))) (1 + prefix_len (λ h. not (not (right h))) hs) 0 (λ n. length (h ∷ hs) ≤ n → IsTrue (list_all right (h ∷ hs)))
-    (λ r le. and_from (right h) (list_all right hs) (sym (not_not (right h)) ∙ r) (all_long right hs (omega arith))) (λ r le. absurd (omega arith)) le0 where
-      not_not : (b : Bool) → not (not b) ≡ b
-      not_not true = refl
-      not_not false = refl
+    (λ r le. and_from (right h) (list_all right hs) (not-false (right h) (not-true (not (right h)) r)) (all_long right hs (omega arith))) (λ r le. absurd (omega arith)) le0
 
 long_all : (right : Handler → Bool) (hs : List Handler) → IsTrue (list_all right hs) → length hs ≤ prefix_len (λ h. not (not (right h))) hs
 long_all right [] all = omega arith
@@ -179,7 +167,7 @@ code_found pool desc code handlers c fits e =
     let walked : w ≡ up_to w.instructions None = ap (λ (f : Option CodeFault). up_to w.instructions f) d.0 in
     let s = walk_found (length code) pool code [] 0 w.instructions fits (omega arith) (omega arith) walked in
     let p : places code ≡ starts s.later = places_again (length code) pool code s.later 0 (omega arith) s.stand in
-    let astray = at_none _ (map_none faults.BadTarget _ b.0) in
+    let astray = map_none (λ (i : Instr). i.at) _ (map_none faults.BadTarget _ b.0) in
     let leads : IsTrue (lead is_start w.instructions) = first_none (λ i. leads_right is_start i.arg) w.instructions astray in
     let leads_later : IsTrue (lead is_start s.later) = subst (λ (is : List Instr). IsTrue (lead is_start is)) s.parts leads in
     let right : IsTrue (list_all (is_right_handler pool code is_start) handlers) = position_none (is_right_handler pool code is_start) handlers (map_none faults.BadRange _ g.0) in

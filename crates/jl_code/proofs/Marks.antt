@@ -1,18 +1,11 @@
 -- Marking the places where instructions stand, one after the other.
 use Rattle.std.proofs.Common.{◌≡◌, ℕ, zero, suc, ◌+◌, ◌≤◌, ◌<◌, inl, inr, Bool, true, false, List, [], ◌∷◌, length, replicate, Ok, Err, refl, sym, ◌∙◌, arith}
 use Rattle.std.specs.Prelude.{◌||◌, slice_set}
+use Rattle.std.proofs.Math.Bool.{or-true, or-false}
 use Rattle.std.proofs.lemmas.Bool.{lt-ltb, le-ltb, cases_eq, eq-eqb, ne_eqb}
 use Rattle.std.proofs.lemmas.List.{get_or-set_same, get_or-set_other}
 use Rattle.jl_code.specs.declared.fault.CodeFault.{CodeFault}
 use Rattle.jl_code.specs.Places.{next_place, places_from, places, stands, is_marked}
-
-or_true : (a b : Bool) → (a || (true || b)) ≡ true
-or_true true b = refl
-or_true false b = refl
-
-or_false : (a : Bool) → (a || false) ≡ a
-or_false true = refl
-or_false false = refl
 
 -- marks, and the places that are still to be marked
 pub record Follows (code : List ℕ) (marks : List Bool) (at : ℕ) : Type 0 where
@@ -37,7 +30,7 @@ marked_step marks at p rest t lt h =
     elim (cases_eq at p) [
       | inl same ↦
           let here : is_marked (slice_set marks at true) p ≡ true = rw (← same) (get_or-set_same marks at true false lt) in
-          let was : t ≡ true = sym h ∙ rw (eq-eqb at p same) (or_true (is_marked marks p) (stands rest p)) in
+          let was : t ≡ true = sym h ∙ rw (eq-eqb at p same) (or-true (is_marked marks p)) in
           rw (here, was) refl
       | inr other ↦
           let there : is_marked (slice_set marks at true) p ≡ is_marked marks p = get_or-set_other marks at p true false (λ e. other (sym e)) in
@@ -69,7 +62,7 @@ nothing_more zero code at f lt read = refl
 nothing_more (suc n) code at f lt read = rw (lt-ltb at (length code) lt, read) refl
 
 all_marked : (code : List ℕ) (marks : List Bool) (at : ℕ) (f : Follows code marks at) → places_from code f.left at ≡ [] → (p : ℕ) → is_marked marks p ≡ stands (places code) p
-all_marked code marks at f none p = sym (or_false (is_marked marks p)) ∙ (rw none at (f.same p))
+all_marked code marks at f none p = sym (or-false (is_marked marks p)) ∙ (rw none at (f.same p))
 
 pub follows_to_end : (code : List ℕ) (marks : List Bool) (at : ℕ) → length code ≤ at → Follows code marks at → is_marked marks ≡ stands (places code)
 follows_to_end code marks at le f = λ i. λ p. all_marked code marks at f (nothing_left f.left code at le) p i

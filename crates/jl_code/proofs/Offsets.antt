@@ -1,5 +1,5 @@
 -- Offsets: what is read leads to a place, and what leads to one is read.
-use Rattle.std.proofs.Common.{◌≡◌, ℕ, ◌+◌, ◌≤◌, ◌<◌, Bool, true, false, cond, ltb, ℤ, pos, negsuc, ◌+ℤ◌, List, length, Result, Ok, Err, refl, sym, ap, subst, arith}
+use Rattle.std.proofs.Common.{◌≡◌, ℕ, ◌+◌, ◌≤◌, ◌<◌, ltb, ℤ, pos, negsuc, ◌+ℤ◌, List, length, Result, Ok, refl, sym, ap, subst, arith}
 use Rattle.std.specs.Int.{Width, cast_signed}
 use Rattle.std.proofs.lemmas.Bool.{lt-ltb, ltb-true}
 use Rattle.jl_reading.specs.Reading.{◌>>=◌, IsBytes}
@@ -10,15 +10,11 @@ use Rattle.jl_code.specs.declared.code.Arg.{Arg}
 use Rattle.jl_code.specs.declared.code.Arg.TheVariants as args
 use Rattle.jl_code.specs.Operands.{operand_at, place_or, target, branch_at}
 use Rattle.jl_code.specs.Spelling.{StandsNumber, LeadsTo, IsBranch}
-use Rattle.jl_code.proofs.Chains.{begun, again, ends}
-
-place_is : (n : ℕ) (b : Bool) (f : CodeFault) (p : ℕ) → cond b (Ok n) (Err f) ≡ Ok p → (b ≡ true) × (n ≡ p)
-place_is n true f p e = (refl, ok_is n p e)
-place_is n false f p e = absurd cc
+use Rattle.jl_code.proofs.Chains.{begun, again, ends, passed}
 
 pub placed : (f : CodeFault) (code : List ℕ) (z : ℤ) (p : ℕ) → place_or f code z ≡ Ok p → (z ≡ pos p) × (p < length code)
 placed f code (pos n) p e =
-    let h = place_is n (ltb n (length code)) f p e in
+    let h = passed (ltb n (length code)) f n p e in
     (ap pos h.1, subst (λ (q : ℕ). q < length code) h.1 (ltb-true n (length code) h.0))
 placed f code (negsuc n) p e = absurd cc
 

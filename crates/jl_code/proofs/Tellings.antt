@@ -7,9 +7,4 @@ use Rattle.jl_code.specs.Told.{told}
 
 pub fails_so : {A : Type 0} (e : CodeFault) (r : Result A CodeFault) → Err e ≡ r → Fails told e r
 fails_so faults.NoMemory r same = tt
-fails_so faults.Empty r same = sym same
-fails_so (faults.UnknownOp at) r same = sym same
-fails_so (faults.ShortOperand at) r same = sym same
-fails_so (faults.BadTarget at) r same = sym same
-fails_so (faults.BadRange at) r same = sym same
-fails_so (faults.BadIndex at) r same = sym same
+fails_so _ r same = sym same

@@ -47,9 +47,4 @@ pub walk_gives : (pool : List Entry) (code : List ℕ) (before : List Instr) (at
     → at < length code → length before ≤ at → Fails told f (instr_at pool code at) → walk_on pool code before (left code before) at ≡ total
     → StopsAt result before f → Gives told (λ w. w) result (Ok total)
 walk_gives pool code before at faults.NoMemory result total lt few read so_far stops = rw stops tt
-walk_gives pool code before at faults.Empty result total lt few read so_far stops = rw (stops, walk_stops pool code before at _ total lt few read so_far) refl
-walk_gives pool code before at (faults.UnknownOp x) result total lt few read so_far stops = rw (stops, walk_stops pool code before at _ total lt few read so_far) refl
-walk_gives pool code before at (faults.ShortOperand x) result total lt few read so_far stops = rw (stops, walk_stops pool code before at _ total lt few read so_far) refl
-walk_gives pool code before at (faults.BadTarget x) result total lt few read so_far stops = rw (stops, walk_stops pool code before at _ total lt few read so_far) refl
-walk_gives pool code before at (faults.BadRange x) result total lt few read so_far stops = rw (stops, walk_stops pool code before at _ total lt few read so_far) refl
-walk_gives pool code before at (faults.BadIndex x) result total lt few read so_far stops = rw (stops, walk_stops pool code before at _ total lt few read so_far) refl
+walk_gives pool code before at f result total lt few read so_far stops = rw (stops, walk_stops pool code before at _ total lt few read so_far) refl

@@ -3,6 +3,7 @@ use Rattle.std.proofs.Common.{◌≡◌, ℕ, ◌+◌, ◌-◌, ◌<◌, ◌≤�
 use Rattle.std.specs.List.{AllByRecursion}
 use Rattle.std.proofs.Math.Nat.{mod-eq_of_lt}
 use Rattle.byteorder.specs.Endian.{big_bytes}
+use Rattle.jl_logic.proofs.Rising.{each_in_append}
 use Rattle.jl_reading.specs.Reading.{◌>>=◌, number_at, Stands, IsBytes, two}
 use Rattle.jl_reading.proofs.Steps.{bind_ok, ok_is}
 use Rattle.jl_reading.proofs.Stands.{Stands-then, number_stands}
@@ -39,10 +40,6 @@ stated_stands change n bytes at made fits le e =
     subst (λ (m : (Change × List RawItem) × ℕ). Stated change n bytes at m) (ok_is ((change, a.0.0), a.0.1) made a.2)
     (subst (λ (all : List RawItem). Stated change n bytes at ((change, all), a.0.1)) (sym f.parts)
     (record { changed = refl; count = f.count; fit = f.fit; stand = f.stand }))
-
-all_both : (xs ys : List RawItem) → AllByRecursion ItemFits xs → AllByRecursion ItemFits ys → AllByRecursion ItemFits (xs ++ ys)
-all_both [] ys a b = b
-all_both (x ∷ xs) ys a b = (a.0, all_both xs ys a.1 b)
 
 record FullStands (delta : ℕ) (bytes : List ℕ) (at : ℕ) (made : (Change × List RawItem) × ℕ) : Type 0 where
   n : ℕ
@@ -87,7 +84,7 @@ full_made delta bytes at n first locals second stack next count few small fit fi
     record {
       n = n;
       changed = refl;
-      fit = all_both locals stack fit fit_stack;
+      fit = each_in_append ItemFits locals stack fit fit_stack;
       body = two n ++ (items_bytes locals ++ (two (length stack) ++ items_bytes stack));
       stand = Stands-then bytes at (two n) first (items_bytes locals ++ (two (length stack) ++ items_bytes stack)) next a behind;
       spelled = record { locals = locals; stack = stack; parts = refl; locals_counted = count; few_locals = few; small_stack = small; spelled = refl };

@@ -1,7 +1,8 @@
 -- Which tags have which form.
-use Rattle.std.proofs.Common.{◌≡◌, ℕ, ◌≤◌, ◌<◌, Bool, true, false, cond, ◌&&◌, Option, Some, option_map, refl, subst, arith}
+use Rattle.std.proofs.Common.{◌≡◌, ℕ, ◌≤◌, ◌<◌, true, false, cond, ◌&&◌, Option, Some, option_map, refl, subst, arith}
 use Rattle.std.specs.Prelude.{nat_le}
-use Rattle.std.proofs.lemmas.Bool.{cond_both, le-leb, leb-true, lt-leb}
+use Rattle.std.proofs.lemmas.Bool.{cond_both, le-leb, leb-true, lt-leb, and_parts, and_from, and_right}
+use Rattle.std.proofs.lemmas.Option.{same_Some}
 use Rattle.jl_frames.specs.declared.form.Form.{Form}
 use Rattle.jl_frames.specs.declared.form.Form.TheVariants as forms
 use Rattle.jl_frames.specs.declared.form.TagRow.{TagRow}
@@ -17,15 +18,8 @@ Range forms.SameExtended tag = tag ≡ 251
 Range forms.Append tag = (252 ≤ tag) × (tag ≤ 254)
 Range forms.Full tag = tag ≡ 255
 
-both : (a b : Bool) → (a && b) ≡ true → (a ≡ true) × (b ≡ true)
-both true b e = (refl, e)
-both false b e = absurd cc
-
 abbrev form_in : TagRow → Form
 form_in r = r.form
-
-some_is : (f g : Form) → Some f ≡ Some g → f ≡ g
-some_is f g e = cc
 
 -- one row of the table
 row_range : (tag first last : ℕ) (f form : Form) (rest : Option TagRow)
@@ -34,8 +28,8 @@ row_range : (tag first last : ℕ) (f form : Form) (rest : Option TagRow)
 row_range tag first last f form rest here there =
     cond_both (nat_le first tag && nat_le tag last) (Some (record { first = first; last = last; form = f })) rest (λ (o : Option TagRow). option_map form_in o ≡ Some form → Range form tag)
     (λ h e.
-    let p = both (nat_le first tag) (nat_le tag last) h in
-    subst (λ (g : Form). Range g tag) (some_is f form e) (here (leb-true first tag p.0) (leb-true tag last p.1)))
+    let p = and_parts (nat_le first tag) (nat_le tag last) h in
+    subst (λ (g : Form). Range g tag) (same_Some f form e) (here (leb-true first tag p.0) (leb-true tag last p.1)))
     (λ h e. there e)
 
 pub in_range : (tag : ℕ) (form : Form) → form_of tag ≡ Some form → Range form tag
@@ -61,14 +55,10 @@ append_least tag e = let r = in_range tag forms.Append e in omega arith
 -- ---- the form of each tag
 
 inside : (tag first last : ℕ) → first ≤ tag → tag ≤ last → (nat_le first tag && nat_le tag last) ≡ true
-inside tag first last a b = rw (le-leb first tag a, le-leb tag last b) refl
-
-and_false : (b : Bool) → (b && false) ≡ false
-and_false true = refl
-and_false false = refl
+inside tag first last a b = and_from (nat_le first tag) (nat_le tag last) (le-leb first tag a) (le-leb tag last b)
 
 past : (tag first last : ℕ) → last < tag → (nat_le first tag && nat_le tag last) ≡ false
-past tag first last lt = rw (lt-leb tag last lt) (and_false (nat_le first tag))
+past tag first last lt = and_right (nat_le first tag) (nat_le tag last) (lt-leb tag last lt)
 
 pub in_form : (form : Form) (tag : ℕ) → Range form tag → form_of tag ≡ Some form
 unfolding tag_rows

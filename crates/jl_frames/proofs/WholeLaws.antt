@@ -1,16 +1,14 @@
 -- All frames: what is read is spelled so, what is spelled so is read, and a fault exists exactly where no frames do.
-use Rattle.std.proofs.Common.{◌≡◌, ◌↔◌, ℕ, zero, suc, ◌+◌, ◌≤◌, cond, eqb, List, [], ◌∷◌, ◌++◌, length, drop, Result, Ok, Err, refl, sym, ap, subst, ◌∙◌, append_assoc, arith}
-use Rattle.std.specs.Prelude.{IfOk}
+use Rattle.std.proofs.Common.{◌≡◌, ℕ, zero, suc, ◌+◌, ◌≤◌, cond, eqb, List, [], ◌∷◌, ◌++◌, length, drop, Result, Ok, Err, refl, sym, ap, subst, ◌∙◌, append_assoc, arith}
 use Rattle.std.proofs.lemmas.Bool.{cond_both, eqb-true, eqb-false}
 use Rattle.std.proofs.lemmas.List.{append-nil, drop_all}
-use Rattle.jl_logic.specs.Answers.{Gives}
 use Rattle.jl_reading.specs.Reading.{◌>>=◌, number_at, each_at, Stands, IsBytes, two}
 use Rattle.jl_reading.proofs.Steps.{bind_ok, ok_is}
 use Rattle.jl_reading.proofs.Stands.{Stands-parts, Stands-from_parts, Stands-nothing, Stands-then, Stands-splits, number_stands, number_again}
 use Rattle.jl_frames.specs.declared.frame.Frame.{Frame}
 use Rattle.jl_frames.specs.declared.fault.FrameFault.{FrameFault}
 use Rattle.jl_frames.specs.declared.fault.FrameFault.TheVariants as faults
-use Rattle.jl_frames.specs.Reading.{told, base_after, frame_at, frames_of}
+use Rattle.jl_frames.specs.Reading.{base_after, frame_at, frames_of}
 use Rattle.jl_frames.specs.Grammar.{AreFrames, IsFrames}
 use Rattle.jl_frames.proofs.FrameLoop.{base_after-push}
 use Rattle.jl_frames.proofs.ChangeLaws.{frame_stands}

@@ -4,37 +4,28 @@ use Rattle.std.specs.Prelude.{MatchOption, IfOk, is_some, Result, Ok, Err}
 use Rattle.std.specs.Option.{unwrap_or}
 use Rattle.std.specs.Str.Pattern.{RFindsChar, SplitsAroundMatch}
 use Rattle.std.specs.Str.{NoCharPasses}
-use Rattle.std.proofs.lemmas.Bool.{eqb-true, true≢false, le-ltb, lt-ltb, ltb-true, ltb-false}
+use Rattle.std.proofs.lemmas.Bool.{eq-eqb, ne_eqb, true≢false, le-ltb, lt-ltb, ltb-true, ltb-false}
 use Rattle.std.proofs.lemmas.List.{append_assoc, take-append-drop}
 use Rattle.std.proofs.lemmas.Str.Pattern.{IsSplitOnceResult, split_parts, NoCharPasses-char, drop_at_char}
-use Rattle.jl_words.specs.Values.{is_empty, with_first, split, path_parts, listed, spelled}
+use Rattle.jl_names.specs.Names.{is_empty, with_first}
+use Rattle.jl_words.specs.Values.{split, path_parts, listed, spelled}
 use Rattle.jl_words.specs.Reading.{parted, parted_last}
 
 -- none of the bytes is c
 abbrev pub Lacks : ℕ → List ℕ → Type 0
 Lacks c bs = (i : ℕ) → i < length bs → get_or bs i 0 ≢ c
 
-pub differs : (b c : ℕ) → b ≢ c → (b == c) ≡ false
-differs b c other = by (b == c) refl
-  where
-    by : (t : Bool) → (b == c) ≡ t → t ≡ false
-    by true e = absurd (other (eqb-true b c e))
-    by false e = refl
-
-equal : (c : ℕ) → (c == c) ≡ true
-equal c = grind arith
-
 -- ---- the first separator
 
 pub parted_none : (c : ℕ) (bs : List ℕ) → Lacks c bs → parted c bs ≡ None
 unfolding parted
 parted_none c [] lacks = refl
-parted_none c (b ∷ bs) lacks = rw (differs b c (lacks 0 (omega arith)), parted_none c bs (λ i l. lacks (suc i) (omega (arith, l)))) refl
+parted_none c (b ∷ bs) lacks = rw (ne_eqb b c (lacks 0 (omega arith)), parted_none c bs (λ i l. lacks (suc i) (omega (arith, l)))) refl
 
 pub parted_some : (c : ℕ) (front back : List ℕ) → Lacks c front → parted c (front ++ c ∷ back) ≡ Some (front, back)
 unfolding parted
-parted_some c [] back lacks = rw (equal c) refl
-parted_some c (b ∷ front) back lacks = rw (differs b c (lacks 0 (omega arith)), parted_some c front back (λ i l. lacks (suc i) (omega (arith, l)))) refl
+parted_some c [] back lacks = rw (eq-eqb c c refl) refl
+parted_some c (b ∷ front) back lacks = rw (ne_eqb b c (lacks 0 (omega arith)), parted_some c front back (λ i l. lacks (suc i) (omega (arith, l)))) refl
 
 by_parts : (c : ℕ) (bs : List ℕ) (r : Option (Bor (List ℕ) × Bor (List ℕ))) → MatchOption r (Lacks c bs) (λ x. (bs ≡ x.0.now ++ (c ∷ x.1.now)) × Lacks c x.0.now)
     → option_map (λ x. (x.0.now, x.1.now)) r ≡ parted c bs
@@ -50,11 +41,11 @@ parted_by c bs r h low = by_parts c bs r (split_parts c bs r h low)
 last_none : (c : ℕ) (bs : List ℕ) → Lacks c bs → parted_last c bs ≡ None
 unfolding parted_last
 last_none c [] lacks = refl
-last_none c (b ∷ bs) lacks = rw (last_none c bs (λ i l. lacks (suc i) (omega (arith, l))), differs b c (lacks 0 (omega arith))) refl
+last_none c (b ∷ bs) lacks = rw (last_none c bs (λ i l. lacks (suc i) (omega (arith, l))), ne_eqb b c (lacks 0 (omega arith))) refl
 
 pub last_some : (c : ℕ) (front back : List ℕ) → Lacks c back → parted_last c (front ++ c ∷ back) ≡ Some (front, back)
 unfolding parted_last
-last_some c [] back lacks = rw (last_none c back lacks, equal c) refl
+last_some c [] back lacks = rw (last_none c back lacks, eq-eqb c c refl) refl
 last_some c (b ∷ front) back lacks = rw (last_some c front back lacks) refl
 
 -- what `rsplit_once` gives
@@ -104,22 +95,16 @@ path_more done more rest front back total cut grown so_far =
     let parts : path_parts rest ≡ filter counts (front ∷ []) ++ path_parts back = ap (filter counts) (split_more 58 rest front back cut) ∙ filter_more front (split 58 back) in
     ap (λ l. l ++ path_parts back) grown ∙ append_assoc done (filter counts (front ∷ [])) (path_parts back) ∙ ap (λ l. done ++ l) (sym parts) ∙ so_far
 
-pub path_last : (done more : List (List ℕ)) (rest : List ℕ) (total : List (List ℕ)) → None ≡ parted 58 rest → more ≡ done ++ filter counts (rest ∷ []) → done ++ path_parts rest ≡ total → more ≡ total
-path_last done more rest total cut grown so_far = grown ∙ ap (λ l. done ++ filter counts l) (sym (split_last 58 rest cut)) ∙ so_far
-
 pub listed_more : (done more : List (List ℕ)) (rest front back : List ℕ) (total : List (List ℕ)) → Some (front, back) ≡ parted 44 rest → more ≡ done ++ front ∷ [] → done ++ listed rest ≡ total → more ++ listed back ≡ total
 listed_more done more rest front back total cut grown so_far =
     ap (λ l. l ++ listed back) grown ∙ append_assoc done (front ∷ []) (listed back) ∙ ap (λ l. done ++ l) (sym (split_more 44 rest front back cut)) ∙ so_far
 
-pub listed_last : (done more : List (List ℕ)) (rest : List ℕ) (total : List (List ℕ)) → None ≡ parted 44 rest → more ≡ done ++ rest ∷ [] → done ++ listed rest ≡ total → more ≡ total
-listed_last done more rest total cut grown so_far = grown ∙ ap (λ l. done ++ l) (sym (split_last 44 rest cut)) ∙ so_far
-
 pub path_ends : {E : Type 0} (done : List (List ℕ)) (r : Result (List (List ℕ)) E) (rest : List ℕ) (total : List (List ℕ)) → None ≡ parted 58 rest → IfOk r (λ more. more ≡ done ++ filter counts (rest ∷ [])) → done ++ path_parts rest ≡ total → IfOk r (λ it. it ≡ total)
-path_ends done (Ok more) rest total cut grown so_far = path_last done more rest total cut grown so_far
+path_ends done (Ok more) rest total cut grown so_far = grown ∙ ap (λ l. done ++ filter counts l) (sym (split_last 58 rest cut)) ∙ so_far
 path_ends done (Err e) rest total cut grown so_far = tt
 
 pub listed_ends : {E : Type 0} (done : List (List ℕ)) (r : Result (List (List ℕ)) E) (rest : List ℕ) (total : List (List ℕ)) → None ≡ parted 44 rest → IfOk r (λ more. more ≡ done ++ rest ∷ []) → done ++ listed rest ≡ total → IfOk r (λ it. it ≡ total)
-listed_ends done (Ok more) rest total cut grown so_far = listed_last done more rest total cut grown so_far
+listed_ends done (Ok more) rest total cut grown so_far = grown ∙ ap (λ l. done ++ l) (sym (split_last 44 rest cut)) ∙ so_far
 listed_ends done (Err e) rest total cut grown so_far = tt
 
 -- ---- numbers

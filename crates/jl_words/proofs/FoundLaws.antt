@@ -1,13 +1,18 @@
 -- That a line is read just where it is well-formed.
-use Rattle.std.proofs.Common.{◌≡◌, ℕ, zero, suc, ◌+◌, ◌<◌, ◌≤◌, nat_lt, nat_le, List, [], ◌∷◌, ◌++◌, length, map, drop, Bool, true, false, not, cond, ◌&&◌, IsTrue, Option, None, Some, Result, Ok, Err, refl, sym, ap, subst, ◌∙◌, arith}
+use Rattle.std.proofs.Common.{◌≡◌, ℕ, suc, ◌+◌, ◌<◌, ◌≤◌, nat_lt, nat_le, List, [], ◌∷◌, ◌++◌, length, map, drop, Bool, true, false, not, cond, ◌&&◌, IsTrue, Option, None, Some, Result, Ok, Err, refl, sym, ap, subst, ◌∙◌, arith}
 use Rattle.std.specs.Prelude.{slice_get, position, codes, IfOk}
 use Rattle.std.specs.List.{list_all, flat_map, AllByRecursion, prefix_len}
-use Rattle.std.proofs.lemmas.Bool.{true≢false, le-ltb, lt-ltb, ltb-true, ltb-false, leb-true, le-leb}
-use Rattle.std.proofs.lemmas.List.{length-append, length-drop, length-map}
+use Rattle.std.proofs.lemmas.Bool.{true≢false, le-ltb, lt-ltb, ltb-true, ltb-false, leb-true, le-leb, ne_eqb, and_parts}
+use Rattle.std.proofs.lemmas.Option.{none-some, same_Some}
+use Rattle.std.proofs.lemmas.List.{length-append, length-drop, length-map, drop_all}
 use Rattle.jl_logic.specs.Answers.{Gives}
+use Rattle.jl_logic.specs.Lists.{Match}
 use Rattle.jl_logic.specs.Order.{is_text}
 use Rattle.jl_prim.specs.Names.{names_a_module}
+use Rattle.jl_names.specs.Names.{is_empty}
 use Rattle.jl_reading.specs.Reading.{◌>>=◌}
+use Rattle.jl_reading.proofs.Steps.{bind_ok, ok_is}
+use Rattle.jl_reading.proofs.Whole.{found_in, only_in}
 use Rattle.jl_words.specs.declared.command.Command.{Command}
 use Rattle.jl_words.specs.declared.command.RunWords.{RunWords}
 use Rattle.jl_words.specs.declared.command.Command.TheVariants.{Resolve, Run, Sample}
@@ -18,25 +23,19 @@ use Rattle.jl_words.specs.declared.setting.Setting.TheVariants as settings
 use Rattle.jl_words.specs.declared.setting.Verb.{Verb}
 use Rattle.jl_words.specs.declared.setting.Verb.TheVariants as verbs
 use Rattle.jl_words.specs.Settings.{verb_text}
-use Rattle.jl_words.specs.Values.{number_of, IsNumber, IsAdded, is_digit, is_empty}
-use Rattle.jl_words.specs.Line.{Use, use_words, AreOperands, begins_with_dash, IsResolve, IsRun, IsSample, IsCommand, IsLine, Match, is_some_use, uses_of, usual_steps, IsBound}
+use Rattle.jl_words.specs.Values.{number_of, IsNumber, IsAdded, is_digit}
+use Rattle.jl_words.specs.Line.{Use, use_words, AreOperands, begins_with_dash, IsResolve, IsRun, IsSample, IsCommand, IsLine, is_some_use, uses_of, usual_steps, IsBound}
 use Rattle.jl_words.specs.Reading.{told, nothing, target_of, verb_of, verb_or, or_none, roots_or, run_words, number_or, is_option, options_from, operands_at, resolve_at, run_at, sample_at, line_read}
-use Rattle.jl_words.proofs.Cutting.{differs}
-use Rattle.jl_words.proofs.ValueLaws.{same_in, none_some, both, number_is, number_found, target_is, target_found}
-use Rattle.jl_words.proofs.UseLaws.{ok_in, err_ok, same_text, at_word, from_word}
+use Rattle.jl_words.proofs.ValueLaws.{number_is, number_found, target_is, target_found}
+use Rattle.jl_words.proofs.UseLaws.{err_ok, same_text, at_word, from_word}
 use Rattle.jl_words.proofs.GivenLaws.{put_all, Ready, Uses, from_options, into_options, uses_few, head_at}
 use Rattle.jl_words.proofs.LineLaws.{all_true, true_all, Said, said_from, meant_from, plain_adds}
-
--- read, and gone on with
-then_is : {A B F : Type 0} (r : Result A F) (f : A → Result B F) (y : B) → (r >>= f) ≡ Ok y → (x : A) × (r ≡ Ok x) × (f x ≡ Ok y)
-then_is (Err e) f y h = absurd (err_ok _ _ h)
-then_is (Ok x) f y h = (x, refl, h)
 
 -- ---- roots
 
 all_pass : (p : List ℕ → Bool) (xs : List (List ℕ)) → list_all p xs ≡ true → prefix_len (λ x. not (not (p x))) xs ≡ length xs
 all_pass p [] e = refl
-all_pass p (x ∷ xs) e = let parts = both (p x) (list_all p xs) e in let later = all_pass p xs parts.1 in rw parts.0 (omega (arith, later))
+all_pass p (x ∷ xs) e = let parts = and_parts (p x) (list_all p xs) e in let later = all_pass p xs parts.1 in rw parts.0 (omega (arith, later))
 
 one_fails : (p : List ℕ → Bool) (xs : List (List ℕ)) → list_all p xs ≡ false → prefix_len (λ x. not (not (p x))) xs < length xs
 one_fails p [] e = absurd (true≢false e)
@@ -57,14 +56,14 @@ some_place p xs e = by (list_all p xs) refl
 
     by : (t : Bool) → list_all p xs ≡ t → t ≡ true
     by true all = refl
-    by false none = absurd (none_some _ (sym e ∙ found none))
+    by false none = absurd (none-some _ (sym e ∙ found none))
 
 resolve_is : (words : List (List ℕ)) (given : Given) (at : ℕ) (c : Command) → resolve_at words given at ≡ Ok c → (at < length words) × AllByRecursion (λ n. IsTrue (names_a_module n)) (drop at words) × (Resolve (or_none given.elements) given.add (drop at words) ≡ c)
 unfolding resolve_at
 resolve_is words given at c e = by (nat_lt at (length words)) refl e
   where
     roots : at < length words → (r : Option ℕ) → position (λ n. not (names_a_module n)) (drop at words) ≡ r → roots_or r given words at ≡ Ok c → (at < length words) × AllByRecursion (λ n. IsTrue (names_a_module n)) (drop at words) × (Resolve (or_none given.elements) given.add (drop at words) ≡ c)
-    roots less None none e = (less, all_true names_a_module (drop at words) (some_place names_a_module (drop at words) none), ok_in {F = WordFault} _ _ e)
+    roots less None none e = (less, all_true names_a_module (drop at words) (some_place names_a_module (drop at words) none), ok_is {F = WordFault} _ _ e)
     roots less (Some k) none e = absurd (err_ok _ _ e)
 
     by : (t : Bool) → nat_lt at (length words) ≡ t → cond t (roots_or (position (λ n. not (names_a_module n)) (drop at words)) given words at) (Err (faults.Missing (codes "ROOT"))) ≡ Ok c → (at < length words) × AllByRecursion (λ n. IsTrue (names_a_module n)) (drop at words) × (Resolve (or_none given.elements) given.add (drop at words) ≡ c)
@@ -94,7 +93,7 @@ run_is words given at c e = by (slice_get words at) refl
   where
     to : (word : List ℕ) → slice_get words at ≡ Some word → (r : Option (List ℕ × Option (List ℕ))) → target_of word ≡ r → (word : List ℕ) × (main : List ℕ × Option (List ℕ)) × (slice_get words at ≡ Some word) × (target_of word ≡ Some main) × (Run (run_words given main (drop (at + 1) words)) ≡ c)
     to word here None f = absurd (err_ok _ _ (sym (run_wrong words given at word here f) ∙ e))
-    to word here (Some main) f = (word, main, here, f, ok_in {F = WordFault} _ _ (sym (run_found words given at word main here f) ∙ e))
+    to word here (Some main) f = (word, main, here, f, ok_is {F = WordFault} _ _ (sym (run_found words given at word main here f) ∙ e))
 
     by : (r : Option (List ℕ)) → slice_get words at ≡ r → (word : List ℕ) × (main : List ℕ × Option (List ℕ)) × (slice_get words at ≡ Some word) × (target_of word ≡ Some main) × (Run (run_words given main (drop (at + 1) words)) ≡ c)
     by None here = absurd (err_ok _ _ (sym (run_lacks words given at here) ∙ e))
@@ -114,7 +113,7 @@ number_or_is what (Some word) at n e = by (number_of word) refl
   where
     by : (r : Option ℕ) → number_of word ≡ r → (w : List ℕ) × (Some word ≡ Some w) × IsNumber w n
     by None is = absurd (err_ok _ _ (sym (number_wrong what word at is) ∙ e))
-    by (Some m) is = (word, refl, number_is word n (is ∙ ap Some (ok_in {F = WordFault} m n (sym (number_read what word at m is) ∙ e))))
+    by (Some m) is = (word, refl, number_is word n (is ∙ ap Some (ok_is {F = WordFault} m n (sym (number_read what word at m is) ∙ e))))
 
 record Sampled (words : List (List ℕ)) (at : ℕ) (c : Command) : Type 0 where
   number : List ℕ
@@ -132,20 +131,20 @@ record Sampled (words : List (List ℕ)) (at : ℕ) (c : Command) : Type 0 where
 sample_is : (words : List (List ℕ)) (at : ℕ) (c : Command) → sample_at words at ≡ Ok c → Sampled words at c
 unfolding sample_at
 sample_is words at c e =
-    let one = then_is (number_or (codes "N") (slice_get words at) at) _ c e in
+    let one = bind_ok (number_or (codes "N") (slice_get words at) at) _ c e in
     let first = number_or_is (codes "N") (slice_get words at) at one.0 one.1 in
     by one.0 first.0 first.1 first.2 (nat_le 1 one.0 && nat_le one.0 1000) refl one.2
   where
     last : (n : ℕ) (number : List ℕ) → slice_get words at ≡ Some number → IsNumber number n → (1 ≤ n) × (n ≤ 1000) → (b : ℕ) (limit : List ℕ) → slice_get words (at + 1) ≡ Some limit → IsNumber limit b → (t : Bool) → nat_lt (at + 2) (length words) ≡ t → cond t (Err (faults.UnknownWord (at + 2))) (Ok (Sample n b)) ≡ Ok c → Sampled words at c
     last n number here is few b limit next bounds true more e = absurd (err_ok _ _ e)
-    last n number here is few b limit next bounds false more e = record { number = number; limit = limit; n = n; bound = b; first = here; second = next; counts = is; few = few; bounds = bounds; last = ltb-false _ _ more; gives = ok_in {F = WordFault} _ _ e }
+    last n number here is few b limit next bounds false more e = record { number = number; limit = limit; n = n; bound = b; first = here; second = next; counts = is; few = few; bounds = bounds; last = ltb-false _ _ more; gives = ok_is {F = WordFault} _ _ e }
 
     by : (n : ℕ) (number : List ℕ) → slice_get words at ≡ Some number → IsNumber number n → (t : Bool) → (nat_le 1 n && nat_le n 1000) ≡ t
         → cond (not t) (Err (faults.BadNumber at)) (number_or (codes "BOUND") (slice_get words (at + 1)) (at + 1) >>= λ bound. cond (nat_lt (at + 2) (length words)) (Err (faults.UnknownWord (at + 2))) (Ok (Sample n bound))) ≡ Ok c → Sampled words at c
     by n number here is false few e = absurd (err_ok _ _ e)
     by n number here is true few e =
-        let parts = both (nat_le 1 n) (nat_le n 1000) few in
-        let two = then_is (number_or (codes "BOUND") (slice_get words (at + 1)) (at + 1)) _ c e in
+        let parts = and_parts (nat_le 1 n) (nat_le n 1000) few in
+        let two = bind_ok (number_or (codes "BOUND") (slice_get words (at + 1)) (at + 1)) _ c e in
         let second = number_or_is (codes "BOUND") (slice_get words (at + 1)) (at + 1) two.0 two.1 in
         last n number here is (leb-true _ _ parts.0, leb-true _ _ parts.1) two.0 second.0 second.1 second.2 (nat_lt (at + 2) (length words)) refl two.2
 
@@ -158,18 +157,17 @@ sample_found words at number limit n bound first second counts few bounds last =
 
 verb_found : (verb : Verb) → verb_of (verb_text verb) ≡ Some verb
 verb_found verbs.Resolve = refl
-verb_found verbs.Run = refl
-verb_found verbs.Sample = refl
+verb_found _ = refl
 
 tested : (word : List ℕ) (t s : Verb) (rest : Option Verb) → (rest ≡ Some s → word ≡ verb_text s) → cond (is_text word (verb_text t)) (Some t) rest ≡ Some s → word ≡ verb_text s
 tested word t s rest later e = by (is_text word (verb_text t)) refl e
   where
     by : (b : Bool) → is_text word (verb_text t) ≡ b → cond b (Some t) rest ≡ Some s → word ≡ verb_text s
-    by true is e = same_text word (verb_text t) is ∙ ap verb_text (same_in t s e)
+    by true is e = same_text word (verb_text t) is ∙ ap verb_text (same_Some t s e)
     by false is e = later e
 
 verb_is : (word : List ℕ) (verb : Verb) → verb_of word ≡ Some verb → word ≡ verb_text verb
-verb_is word verb = tested word verbs.Resolve verb _ (tested word verbs.Run verb _ (tested word verbs.Sample verb None (λ e. absurd (none_some verb e))))
+verb_is word verb = tested word verbs.Resolve verb _ (tested word verbs.Run verb _ (tested word verbs.Sample verb None (λ e. absurd (none-some verb e))))
 
 operands : (rest : List (List ℕ)) → is_option (slice_get rest 0) ≡ false → 1 ≤ length rest → AreOperands rest
 operands [] stop some = absurd (omega (arith, some))
@@ -182,12 +180,6 @@ stops (w ∷ ws) are = (are, omega arith)
 no_uses : (uses : List Use) (given : Given) → Ready verbs.Sample uses given → uses ≡ []
 no_uses [] given ready = refl
 no_uses (u ∷ us) given ready = absurd (true≢false (sym ready.0.is.has))
-
-ends_there : (words : List (List ℕ)) (n : ℕ) → length words ≤ n → drop n words ≡ []
-ends_there [] zero few = refl
-ends_there [] (suc n) few = refl
-ends_there (w ∷ ws) zero few = absurd (omega (arith, few))
-ends_there (w ∷ ws) (suc n) few = ends_there ws n (omega (arith, few))
 
 -- ---- what is read is of the form
 
@@ -234,7 +226,7 @@ module _ (w : List ℕ) (ws : List (List ℕ)) (after : Given) (next : ℕ) (c :
       let none = no_uses u.uses nothing u.ready in
       let place : next + 1 ≡ suc next = omega arith in
       let rest : drop next (w ∷ ws) ≡ r.number ∷ r.limit ∷ [] =
-      at_word (w ∷ ws) next r.number r.first ∙ ap (λ l. r.number ∷ l) (at_word (w ∷ ws) (suc next) r.limit (ap (slice_get (w ∷ ws)) (sym place) ∙ r.second) ∙ ap (λ l. r.limit ∷ l) (ends_there (w ∷ ws) (suc (suc next)) (omega (arith, r.last)))) in
+      at_word (w ∷ ws) next r.number r.first ∙ ap (λ l. r.number ∷ l) (at_word (w ∷ ws) (suc next) r.limit (ap (slice_get (w ∷ ws)) (sym place) ∙ r.second) ∙ ap (λ l. r.limit ∷ l) (drop_all (suc (suc next)) (w ∷ ws) (omega (arith, r.last)))) in
       let line : IsSample (w ∷ ws) r.n r.bound = record {
         number = r.number;
         limit = r.limit;
@@ -258,7 +250,7 @@ line_found (w ∷ ws) c e = by (verb_of w) refl e
     by : (r : Option Verb) → verb_of w ≡ r → verb_or r (w ∷ ws) ≡ Ok c → IsCommand (w ∷ ws) c
     by None is e = absurd (err_ok _ _ e)
     by (Some verb) is e =
-        let x = then_is (options_from (length (w ∷ ws)) verb (w ∷ ws) nothing 1) (operands_at verb (w ∷ ws)) c e in
+        let x = bind_ok (options_from (length (w ∷ ws)) verb (w ∷ ws) nothing 1) (operands_at verb (w ∷ ws)) c e in
         verb_line w ws x.0.0 x.0.1 c verb (from_options (length (w ∷ ws)) verb (w ∷ ws) nothing x.0.0 1 x.0.1 (omega arith) x.1) (verb_is w verb is) x.2
 
 -- ---- what is of the form is read
@@ -281,10 +273,10 @@ into verb uses rest ready stop =
 digits_stop : (text : List ℕ) (n : ℕ) → IsNumber text n → begins_with_dash text ≡ false
 digits_stop [] n is = refl
 digits_stop (b ∷ bs) n is =
-    let digits = both (nat_le (length (b ∷ bs)) 20) (list_all is_digit (b ∷ bs)) (both (not (is_empty (b ∷ bs))) (nat_le (length (b ∷ bs)) 20 && list_all is_digit (b ∷ bs)) is.digits).1 in
-    let digit = both (is_digit b) (list_all is_digit bs) digits.1 in
-    let low : 48 ≤ b = leb-true 48 b (both (nat_le 48 b) (nat_le b 57) digit.0).0 in
-    differs b 45 (λ e. omega (arith, low, e))
+    let digits = and_parts (nat_le (length (b ∷ bs)) 20) (list_all is_digit (b ∷ bs)) (and_parts (not (is_empty (b ∷ bs))) (nat_le (length (b ∷ bs)) 20 && list_all is_digit (b ∷ bs)) is.digits).1 in
+    let digit = and_parts (is_digit b) (list_all is_digit bs) digits.1 in
+    let low : 48 ≤ b = leb-true 48 b (and_parts (nat_le 48 b) (nat_le b 57) digit.0).0 in
+    ne_eqb b 45 (λ e. omega (arith, low, e))
 
 resolve_into : (words elements add roots : List (List ℕ)) → IsResolve words elements add roots → line_read words ≡ Ok (Resolve elements add roots)
 unfolding Into
@@ -334,11 +326,7 @@ line_into words (Sample n bound) is = sample_into words n bound is
 
 module _ {W : Type 0} (f : W → List ℕ) (ws : List W) (r : Result Command WordFault) (few : length ws ≤ 65536) where
   pub found_few : Gives told (λ x. x) r (line_read (map f ws)) → IfOk r (λ c. IsLine (map f ws) c)
-  found_few h = by r h
-    where
-      by : (r : Result Command WordFault) → Gives told (λ x. x) r (line_read (map f ws)) → IfOk r (λ c. IsLine (map f ws) c)
-      by (Ok c) h = record { few = omega (arith, few, length-map ws f); command = line_found (map f ws) c h }
-      by (Err e) h = tt
+  found_few = found_in (line_read (map f ws)) (IsLine (map f ws)) told (λ x. x) r (λ c e. record { few = omega (arith, few, length-map ws f); command = line_found (map f ws) c e })
 
   pub only_few : Gives told (λ x. x) r (line_read (map f ws)) → (c : Command) → IsLine (map f ws) c → Gives told (λ x. x) r (Ok c)
-  only_few h c is = subst (λ d. Gives told (λ x. x) r d) (line_into (map f ws) c is.command) h
+  only_few = only_in (line_read (map f ws)) (IsLine (map f ws)) told (λ x. x) r (λ c is. line_into (map f ws) c is.command)

@@ -6,6 +6,7 @@ use Rattle.std.proofs.lemmas.Bool.{true≢false}
 use Rattle.std.proofs.lemmas.List.{append_assoc, append-nil, length-append}
 use Rattle.std.proofs.lemmas.Option.{slice_get_past}
 use Rattle.jl_reading.specs.Reading.{◌>>=◌}
+use Rattle.jl_reading.proofs.Steps.{ok_is}
 use Rattle.jl_words.specs.declared.command.Added.{Added}
 use Rattle.jl_words.specs.declared.fault.WordFault.{WordFault}
 use Rattle.jl_words.specs.declared.given.Given.{Given}
@@ -17,7 +18,7 @@ use Rattle.jl_words.specs.Values.{path_parts, listed, number_of}
 use Rattle.jl_words.specs.Line.{Use, use_words, uses_of, values_of, IsUse}
 use Rattle.jl_words.specs.Reading.{is_given, added_of, is_option, word_of, use_of, named_by, options_from}
 use Rattle.jl_words.proofs.Uses.{used, options_stop, step}
-use Rattle.jl_words.proofs.UseLaws.{ok_in, err_ok, listed_fact, put, fine, Adds, Used, at_word, used_from, used_read}
+use Rattle.jl_words.proofs.UseLaws.{err_ok, listed_fact, put, fine, Adds, Used, at_word, used_from, used_read}
 
 abbrev pub put_all : List Use → Given → Given
 put_all [] given = given
@@ -39,7 +40,7 @@ pub record Uses (verb : Verb) (words : List (List ℕ)) (given after : Given) (a
 
 ended : (verb : Verb) (words : List (List ℕ)) (given after : Given) (at next : ℕ) → is_option (slice_get words at) ≡ false → ◌≡◌ {A = Result (Given × ℕ) WordFault} (Ok (given, at)) (Ok (after, next)) → Uses verb words given after at next
 ended verb words given after at next stop e =
-    let same = ok_in {F = WordFault} (given, at) (after, next) e in
+    let same = ok_is {F = WordFault} (given, at) (after, next) e in
     let there : at ≡ next = ap (λ x. x.1) same in
     record { uses = []; ready = tt; gives = ap (λ x. x.0) same; text = ap (λ n. drop n words) there; ends = subst (λ n. is_option (slice_get words n) ≡ false) there stop }
 
@@ -129,12 +130,7 @@ elements_given (u ∷ us) given = by u.setting (elements_given us (put u.setting
   where
     by : (t : Setting) → (put_all us (put t u.value given)).elements ≡ last_path (values_of settings.ModulePath us) (put t u.value given).elements → (put_all us (put t u.value given)).elements ≡ last_path (map (λ (x : Use). x.value) (cond (is_setting settings.ModulePath t) (u ∷ uses_of settings.ModulePath us) (uses_of settings.ModulePath us))) given.elements
     by settings.ModulePath h = h
-    by settings.AddModules h = h
-    by settings.AddReads h = h
-    by settings.AddExports h = h
-    by settings.AddOpens h = h
-    by settings.Steps h = h
-    by settings.Report h = h
+    by _ h = h
 
 pub steps_given : (uses : List Use) (given : Given) → (put_all uses given).steps ≡ last_steps (values_of settings.Steps uses) given.steps
 steps_given [] given = refl
@@ -142,12 +138,7 @@ steps_given (u ∷ us) given = by u.setting (steps_given us (put u.setting u.val
   where
     by : (t : Setting) → (put_all us (put t u.value given)).steps ≡ last_steps (values_of settings.Steps us) (put t u.value given).steps → (put_all us (put t u.value given)).steps ≡ last_steps (map (λ (x : Use). x.value) (cond (is_setting settings.Steps t) (u ∷ uses_of settings.Steps us) (uses_of settings.Steps us))) given.steps
     by settings.ModulePath h = h
-    by settings.AddModules h = h
-    by settings.AddReads h = h
-    by settings.AddExports h = h
-    by settings.AddOpens h = h
-    by settings.Steps h = h
-    by settings.Report h = h
+    by _ h = h
 
 pub report_given : (uses : List Use) (given : Given) → (put_all uses given).report ≡ last_report (uses_of settings.Report uses) given.report
 report_given [] given = refl
@@ -155,38 +146,25 @@ report_given (u ∷ us) given = by u.setting (report_given us (put u.setting u.v
   where
     by : (t : Setting) → (put_all us (put t u.value given)).report ≡ last_report (uses_of settings.Report us) (put t u.value given).report → (put_all us (put t u.value given)).report ≡ last_report (cond (is_setting settings.Report t) (u ∷ uses_of settings.Report us) (uses_of settings.Report us)) given.report
     by settings.ModulePath h = h
-    by settings.AddModules h = h
-    by settings.AddReads h = h
-    by settings.AddExports h = h
-    by settings.AddOpens h = h
-    by settings.Steps h = h
-    by settings.Report h = h
+    by _ h = h
 
 pub add_given : (uses : List Use) (given : Given) → (put_all uses given).add ≡ given.add ++ flat_map listed (values_of settings.AddModules uses)
 add_given [] given = sym (append-nil given.add)
 add_given (u ∷ us) given = by u.setting (add_given us (put u.setting u.value given))
   where
     by : (t : Setting) → (put_all us (put t u.value given)).add ≡ (put t u.value given).add ++ flat_map listed (values_of settings.AddModules us) → (put_all us (put t u.value given)).add ≡ given.add ++ flat_map listed (map (λ (x : Use). x.value) (cond (is_setting settings.AddModules t) (u ∷ uses_of settings.AddModules us) (uses_of settings.AddModules us)))
-    by settings.ModulePath h = h
     by settings.AddModules h = h ∙ append_assoc given.add (listed u.value) (flat_map listed (values_of settings.AddModules us))
-    by settings.AddReads h = h
-    by settings.AddExports h = h
-    by settings.AddOpens h = h
-    by settings.Steps h = h
-    by settings.Report h = h
+    by _ h = h
 
 pub added_given : (uses : List Use) (given : Given) → (put_all uses given).added ≡ given.added ++ facts uses
 added_given [] given = sym (append-nil given.added)
 added_given (u ∷ us) given = by u.setting (added_given us (put u.setting u.value given))
   where
     by : (t : Setting) → (put_all us (put t u.value given)).added ≡ (put t u.value given).added ++ facts us → (put_all us (put t u.value given)).added ≡ given.added ++ (listed_fact (added_of t u.value) ++ facts us)
-    by settings.ModulePath h = h
-    by settings.AddModules h = h
     by settings.AddReads h = h ∙ append_assoc given.added (listed_fact (added_of settings.AddReads u.value)) (facts us)
     by settings.AddExports h = h ∙ append_assoc given.added (listed_fact (added_of settings.AddExports u.value)) (facts us)
     by settings.AddOpens h = h ∙ append_assoc given.added (listed_fact (added_of settings.AddOpens u.value)) (facts us)
-    by settings.Steps h = h
-    by settings.Report h = h
+    by _ h = h
 
 -- ---- at most once
 
@@ -198,30 +176,12 @@ count_step s u us given single good first = by s u.setting single good first
   where
     by : (s t : Setting) → is_single s ≡ true → fine t u.value ≡ true → is_given t given ≡ false → length (cond (is_setting s t) (u ∷ uses_of s us) (uses_of s us)) + cond (is_given s given) 1 0 ≡ length (uses_of s us) + cond (is_given s (put t u.value given)) 1 0
     by settings.ModulePath settings.ModulePath single good first = rw first (omega arith)
-    by settings.ModulePath settings.AddModules single good first = refl
-    by settings.ModulePath settings.AddReads single good first = refl
-    by settings.ModulePath settings.AddExports single good first = refl
-    by settings.ModulePath settings.AddOpens single good first = refl
-    by settings.ModulePath settings.Steps single good first = refl
-    by settings.ModulePath settings.Report single good first = refl
-    by settings.AddModules t single good first = absurd (true≢false (sym single))
-    by settings.AddReads t single good first = absurd (true≢false (sym single))
-    by settings.AddExports t single good first = absurd (true≢false (sym single))
-    by settings.AddOpens t single good first = absurd (true≢false (sym single))
-    by settings.Steps settings.ModulePath single good first = refl
-    by settings.Steps settings.AddModules single good first = refl
-    by settings.Steps settings.AddReads single good first = refl
-    by settings.Steps settings.AddExports single good first = refl
-    by settings.Steps settings.AddOpens single good first = refl
     by settings.Steps settings.Steps single good first = rw (first, good) (omega arith)
-    by settings.Steps settings.Report single good first = refl
-    by settings.Report settings.ModulePath single good first = refl
-    by settings.Report settings.AddModules single good first = refl
-    by settings.Report settings.AddReads single good first = refl
-    by settings.Report settings.AddExports single good first = refl
-    by settings.Report settings.AddOpens single good first = refl
-    by settings.Report settings.Steps single good first = refl
     by settings.Report settings.Report single good first = rw first (omega arith)
+    by settings.ModulePath _ single good first = refl
+    by settings.Steps _ single good first = refl
+    by settings.Report _ single good first = refl
+    by _ t single good first = absurd (true≢false (sym single))
 
 abbrev pub Fine : List Use → Type 0
 Fine uses = AllByRecursion (λ (u : Use). fine u.setting u.value ≡ true) uses
@@ -249,9 +209,6 @@ ready_from verb (u ∷ us) given each good once =
   where
     by : (t : Setting) → ((s : Setting) → is_single s ≡ true → length (cond (is_setting s t) (u ∷ uses_of s us) (uses_of s us)) + cond (is_given s given) 1 0 ≤ 1) → is_given t given ≡ false
     by settings.ModulePath h = must_be (is_some given.elements) (length (uses_of settings.ModulePath us)) (h settings.ModulePath refl)
-    by settings.AddModules h = refl
-    by settings.AddReads h = refl
-    by settings.AddExports h = refl
-    by settings.AddOpens h = refl
     by settings.Steps h = must_be (is_some given.steps) (length (uses_of settings.Steps us)) (h settings.Steps refl)
     by settings.Report h = must_be given.report (length (uses_of settings.Report us)) (h settings.Report refl)
+    by _ h = refl

@@ -2,9 +2,10 @@
 use Rattle.std.proofs.Common.{◌≡◌, ℕ, ◌≤◌, List, [], ◌∷◌, ◌++◌, length, map, filter, Bool, true, false, cond, ◌||◌, IsTrue, Option, None, Some, refl, sym, ap, subst, ◌∙◌, arith}
 use Rattle.std.specs.Prelude.{is_some}
 use Rattle.std.specs.List.{list_all, flat_map, AllByRecursion}
-use Rattle.std.proofs.lemmas.Bool.{true≢false}
+use Rattle.std.proofs.lemmas.Bool.{true≢false, and_parts}
 use Rattle.std.proofs.lemmas.List.{append-nil, length-map}
 use Rattle.jl_prim.specs.Names.{names_a_module}
+use Rattle.jl_logic.specs.Lists.{Match}
 use Rattle.jl_logic.proofs.Rising.{each_in_append}
 use Rattle.jl_words.specs.declared.command.Added.{Added}
 use Rattle.jl_words.specs.declared.given.Given.{Given}
@@ -14,15 +15,15 @@ use Rattle.jl_words.specs.declared.setting.Verb.{Verb}
 use Rattle.jl_words.specs.declared.setting.Verb.TheVariants as verbs
 use Rattle.jl_words.specs.Settings.{is_single, is_setting, has_setting}
 use Rattle.jl_words.specs.Values.{path_parts, listed, number_of, IsNumber, IsAdded}
-use Rattle.jl_words.specs.Line.{Use, uses_of, values_of, IsUse, AreUses, Match, adds, IsBound, is_some_use, AreElements, AreRoots, AreAdded}
+use Rattle.jl_words.specs.Line.{Use, uses_of, values_of, IsUse, AreUses, adds, IsBound, is_some_use, AreElements, AreRoots, AreAdded}
 use Rattle.jl_words.specs.Reading.{is_given, added_of, nothing, or_none, or_usual}
-use Rattle.jl_words.proofs.ValueLaws.{both, number_is, number_found, added_is, added_found}
+use Rattle.jl_words.proofs.ValueLaws.{number_is, number_found, added_is, added_found}
 use Rattle.jl_words.proofs.UseLaws.{listed_fact, fine}
 use Rattle.jl_words.proofs.GivenLaws.{put_all, Ready, last_path, last_steps, last_report, facts, elements_given, steps_given, report_given, add_given, added_given, count, Fine, ready_parts, ready_from}
 
 pub all_true : {X : Type 0} (p : X → Bool) (xs : List X) → list_all p xs ≡ true → AllByRecursion (λ x. IsTrue (p x)) xs
 all_true p [] e = tt
-all_true p (x ∷ xs) e = let parts = both (p x) (list_all p xs) e in (parts.0, all_true p xs parts.1)
+all_true p (x ∷ xs) e = let parts = and_parts (p x) (list_all p xs) e in (parts.0, all_true p xs parts.1)
 
 pub true_all : {X : Type 0} (p : X → Bool) (xs : List X) → AllByRecursion (λ x. IsTrue (p x)) xs → list_all p xs ≡ true
 true_all p [] e = refl
@@ -39,26 +40,16 @@ roots_named [] good = tt
 roots_named (u ∷ us) good = by u.setting good.0 (roots_named us good.1)
   where
     by : (t : Setting) → fine t u.value ≡ true → AllByRecursion (λ n. IsTrue (names_a_module n)) (flat_map listed (values_of settings.AddModules us)) → AllByRecursion (λ n. IsTrue (names_a_module n)) (flat_map listed (map (λ (x : Use). x.value) (cond (is_setting settings.AddModules t) (u ∷ uses_of settings.AddModules us) (uses_of settings.AddModules us))))
-    by settings.ModulePath g h = h
     by settings.AddModules g h = each_in_append (λ n. IsTrue (names_a_module n)) (listed u.value) (flat_map listed (values_of settings.AddModules us)) (all_true names_a_module (listed u.value) g) h
-    by settings.AddReads g h = h
-    by settings.AddExports g h = h
-    by settings.AddOpens g h = h
-    by settings.Steps g h = h
-    by settings.Report g h = h
+    by _ g h = h
 
 numbers_fine : (uses : List Use) → Fine uses → AllByRecursion (λ v. is_some (number_of v) ≡ true) (values_of settings.Steps uses)
 numbers_fine [] good = tt
 numbers_fine (u ∷ us) good = by u.setting good.0 (numbers_fine us good.1)
   where
     by : (t : Setting) → fine t u.value ≡ true → AllByRecursion (λ v. is_some (number_of v) ≡ true) (values_of settings.Steps us) → AllByRecursion (λ v. is_some (number_of v) ≡ true) (map (λ (x : Use). x.value) (cond (is_setting settings.Steps t) (u ∷ uses_of settings.Steps us) (uses_of settings.Steps us)))
-    by settings.ModulePath g h = h
-    by settings.AddModules g h = h
-    by settings.AddReads g h = h
-    by settings.AddExports g h = h
-    by settings.AddOpens g h = h
     by settings.Steps g h = (g, h)
-    by settings.Report g h = h
+    by _ g h = h
 
 take_fact : (u : Use) (l : List Use) (m : List Added) (t : Setting) → u.setting ≡ t → (r : Option Added) → added_of t u.value ≡ r → is_some r ≡ true → Match (λ (x : Use). IsAdded x.setting x.value) l m → Match (λ (x : Use). IsAdded x.setting x.value) (u ∷ l) (listed_fact r ++ m)
 take_fact u l m t is None e some h = absurd (true≢false (sym some))
@@ -69,13 +60,10 @@ facts_match [] good = tt
 facts_match (u ∷ us) good = by u.setting refl good.0 (facts_match us good.1)
   where
     by : (t : Setting) → u.setting ≡ t → fine t u.value ≡ true → Match (λ (x : Use). IsAdded x.setting x.value) (filter adds us) (facts us) → Match (λ (x : Use). IsAdded x.setting x.value) (cond (is_setting settings.AddReads t || (is_setting settings.AddExports t || is_setting settings.AddOpens t)) (u ∷ filter adds us) (filter adds us)) (listed_fact (added_of t u.value) ++ facts us)
-    by settings.ModulePath is g h = h
-    by settings.AddModules is g h = h
     by settings.AddReads is g h = take_fact u (filter adds us) (facts us) settings.AddReads is (added_of settings.AddReads u.value) refl g h
     by settings.AddExports is g h = take_fact u (filter adds us) (facts us) settings.AddExports is (added_of settings.AddExports u.value) refl g h
     by settings.AddOpens is g h = take_fact u (filter adds us) (facts us) settings.AddOpens is (added_of settings.AddOpens u.value) refl g h
-    by settings.Steps is g h = h
-    by settings.Report is g h = h
+    by _ is g h = h
 
 fine_from : (uses : List Use) (added : List Added) → AllByRecursion (λ n. IsTrue (names_a_module n)) (flat_map listed (values_of settings.AddModules uses)) → AllByRecursion (λ v. is_some (number_of v) ≡ true) (values_of settings.Steps uses) → Match (λ (x : Use). IsAdded x.setting x.value) (filter adds uses) added
     → Fine uses × (added ≡ facts uses)
@@ -86,6 +74,15 @@ fine_from (u ∷ us) added r n m = let x = by u.setting refl added r n m (λ add
     Later : Type 0
     Later = (added : List Added) → AllByRecursion (λ n. IsTrue (names_a_module n)) (flat_map listed (values_of settings.AddModules us)) → AllByRecursion (λ v. is_some (number_of v) ≡ true) (values_of settings.Steps us) → Match (λ (x : Use). IsAdded x.setting x.value) (filter adds us) added → Fine us × (added ≡ facts us)
 
+    -- an option that adds a fact
+    one_fact : (t : Setting) → u.setting ≡ t → (added : List Added) → AllByRecursion (λ n. IsTrue (names_a_module n)) (flat_map listed (values_of settings.AddModules us)) → AllByRecursion (λ v. is_some (number_of v) ≡ true) (values_of settings.Steps us)
+        → Match (λ (x : Use). IsAdded x.setting x.value) (u ∷ filter adds us) added → Later → (is_some (added_of t u.value) ≡ true) × Fine us × (added ≡ listed_fact (added_of t u.value) ++ facts us)
+    one_fact t is [] r n m later = absurd m
+    one_fact t is (a ∷ added) r n m later =
+        let x = later added r n m.1 in
+        let found : added_of t u.value ≡ Some a = added_found t u.value a (subst (λ s. IsAdded s u.value a) is m.0) in
+        (ap is_some found, x.0, ap (λ l. a ∷ l) x.1 ∙ ap (λ o. listed_fact o ++ facts us) (sym found))
+
     by : (t : Setting) → u.setting ≡ t → (added : List Added) → AllByRecursion (λ n. IsTrue (names_a_module n)) (flat_map listed (map (λ (x : Use). x.value) (cond (is_setting settings.AddModules t) (u ∷ uses_of settings.AddModules us) (uses_of settings.AddModules us)))) → AllByRecursion (λ v. is_some (number_of v) ≡ true) (map (λ (x : Use). x.value) (cond (is_setting settings.Steps t) (u ∷ uses_of settings.Steps us) (uses_of settings.Steps us)))
         → Match (λ (x : Use). IsAdded x.setting x.value) (cond (is_setting settings.AddReads t || (is_setting settings.AddExports t || is_setting settings.AddOpens t)) (u ∷ filter adds us) (filter adds us)) added → Later → (fine t u.value ≡ true) × Fine us × (added ≡ listed_fact (added_of t u.value) ++ facts us)
     by settings.ModulePath is added r n m later = let x = later added r n m in (refl, x.0, x.1)
@@ -93,21 +90,9 @@ fine_from (u ∷ us) added r n m = let x = by u.setting refl added r n m (λ add
         let parts = each_apart (λ n. IsTrue (names_a_module n)) (listed u.value) (flat_map listed (values_of settings.AddModules us)) r in
         let x = later added parts.1 n m in
         (true_all names_a_module (listed u.value) parts.0, x.0, x.1)
-    by settings.AddReads is [] r n m later = absurd m
-    by settings.AddReads is (a ∷ added) r n m later =
-        let x = later added r n m.1 in
-        let found : added_of settings.AddReads u.value ≡ Some a = added_found settings.AddReads u.value a (subst (λ s. IsAdded s u.value a) is m.0) in
-        (ap is_some found, x.0, ap (λ l. a ∷ l) x.1 ∙ ap (λ o. listed_fact o ++ facts us) (sym found))
-    by settings.AddExports is [] r n m later = absurd m
-    by settings.AddExports is (a ∷ added) r n m later =
-        let x = later added r n m.1 in
-        let found : added_of settings.AddExports u.value ≡ Some a = added_found settings.AddExports u.value a (subst (λ s. IsAdded s u.value a) is m.0) in
-        (ap is_some found, x.0, ap (λ l. a ∷ l) x.1 ∙ ap (λ o. listed_fact o ++ facts us) (sym found))
-    by settings.AddOpens is [] r n m later = absurd m
-    by settings.AddOpens is (a ∷ added) r n m later =
-        let x = later added r n m.1 in
-        let found : added_of settings.AddOpens u.value ≡ Some a = added_found settings.AddOpens u.value a (subst (λ s. IsAdded s u.value a) is m.0) in
-        (ap is_some found, x.0, ap (λ l. a ∷ l) x.1 ∙ ap (λ o. listed_fact o ++ facts us) (sym found))
+    by settings.AddReads is added r n m later = one_fact settings.AddReads is added r n m later
+    by settings.AddExports is added r n m later = one_fact settings.AddExports is added r n m later
+    by settings.AddOpens is added r n m later = one_fact settings.AddOpens is added r n m later
     by settings.Steps is added r n m later = let x = later added r n.1 m in (n.0, x.0, x.1)
     by settings.Report is added r n m later = let x = later added r n m in (refl, x.0, x.1)
 
@@ -142,12 +127,7 @@ report_is (u ∷ us) = stays us
 
 nothing_given : (s : Setting) → is_given s nothing ≡ false
 nothing_given settings.ModulePath = refl
-nothing_given settings.AddModules = refl
-nothing_given settings.AddReads = refl
-nothing_given settings.AddExports = refl
-nothing_given settings.AddOpens = refl
-nothing_given settings.Steps = refl
-nothing_given settings.Report = refl
+nothing_given _ = refl
 
 values_few : (s : Setting) (uses : List Use) → length (uses_of s uses) ≤ 1 → length (values_of s uses) ≤ 1
 values_few s uses few = omega (arith, few, length-map (uses_of s uses) (λ (x : Use). x.value))
@@ -208,8 +188,4 @@ plain_adds (u ∷ us) each = by u.setting each.0.has (plain_adds us each.1)
     by : (t : Setting) → has_setting verbs.Resolve t ≡ true → (filter adds us ≡ []) × (values_of settings.Steps us ≡ []) → (cond (is_setting settings.AddReads t || (is_setting settings.AddExports t || is_setting settings.AddOpens t)) (u ∷ filter adds us) (filter adds us) ≡ []) × (map (λ (x : Use). x.value) (cond (is_setting settings.Steps t) (u ∷ uses_of settings.Steps us) (uses_of settings.Steps us)) ≡ [])
     by settings.ModulePath g h = h
     by settings.AddModules g h = h
-    by settings.AddReads g h = absurd (true≢false (sym g))
-    by settings.AddExports g h = absurd (true≢false (sym g))
-    by settings.AddOpens g h = absurd (true≢false (sym g))
-    by settings.Steps g h = absurd (true≢false (sym g))
-    by settings.Report g h = absurd (true≢false (sym g))
+    by _ g h = absurd (true≢false (sym g))

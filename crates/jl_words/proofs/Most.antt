@@ -18,14 +18,8 @@ many_read words many = rw (lt-leb (length words) 65536 many) refl
 
 gives_past : (r d : Result Command WordFault) → Gives told (λ x. x) r d → Gives told (λ x. x) (past_most r) (past_most d)
 gives_past (Ok c) d h = ap past_most h
-gives_past (Err faults.NoCommand) d h = ap past_most h
-gives_past (Err (faults.UnknownWord at)) d h = ap past_most h
-gives_past (Err (faults.Missing what)) d h = ap past_most h
-gives_past (Err (faults.Repeated what)) d h = ap past_most h
-gives_past (Err (faults.BadNumber at)) d h = ap past_most h
-gives_past (Err (faults.BadTarget at)) d h = ap past_most h
-gives_past (Err faults.NotBuilt) d h = ap past_most h
 gives_past (Err faults.NoMemory) d h = tt
+gives_past (Err _) d h = ap past_most h
 
 module _ {W : Type 0} (f : W → List ℕ) (ws : List W) where
   pub gives_few : (r : Result Command WordFault) → length ws ≤ 65536 → Gives told (λ x. x) r (line_read (map f ws)) → Gives told (λ x. x) r (words_read (map f ws))

@@ -1,10 +1,13 @@
 -- Options, and the uses that a well-formed line has.
-use Rattle.std.proofs.Common.{◌≡◌, ℕ, zero, suc, ◌+◌, ◌<◌, List, [], ◌∷◌, ◌++◌, drop, Bool, true, false, not, cond, ◌&&◌, Option, None, Some, Result, Ok, Err, refl, sym, ap, subst, ◌∙◌, arith}
+use Rattle.std.proofs.Common.{◌≡◌, ℕ, zero, suc, ◌+◌, ◌<◌, List, [], ◌∷◌, ◌++◌, drop, Bool, true, false, cond, ◌&&◌, Option, None, Some, Result, Ok, Err, refl, sym, ap, subst, ◌∙◌, arith}
 use Rattle.std.specs.Prelude.{is_some, is_ok, slice_get}
 use Rattle.std.specs.List.{list_all}
 use Rattle.std.specs.Cmp.Lexicographic.{bytes_decides}
-use Rattle.std.proofs.lemmas.Bool.{true≢false}
+use Rattle.std.proofs.Math.Bool.{and-true, and-false}
+use Rattle.std.proofs.lemmas.Bool.{true≢false, and_parts, not-true}
+use Rattle.std.proofs.lemmas.Option.{none-some, same_Some}
 use Rattle.jl_logic.specs.Order.{is_text}
+use Rattle.jl_reading.proofs.Steps.{ok_is}
 use Rattle.jl_prim.specs.Names.{names_a_module}
 use Rattle.jl_words.specs.declared.command.Added.{Added}
 use Rattle.jl_words.specs.declared.fault.WordFault.{WordFault}
@@ -17,21 +20,10 @@ use Rattle.jl_words.specs.Settings.{setting_text, has_setting, is_flag}
 use Rattle.jl_words.specs.Values.{path_parts, listed, number_of}
 use Rattle.jl_words.specs.Line.{Use, use_words, IsUse}
 use Rattle.jl_words.specs.Reading.{parted, setting_of, fits, fitting, named_by, is_given, with_value, added_of, with_added, with_steps, and_then, valued, use_of, is_option, word_of}
-use Rattle.jl_words.proofs.ValueLaws.{same_in, none_some, both, whole}
-
-pub ok_in : {X F : Type 0} (x y : X) → ◌≡◌ {A = Result X F} (Ok x) (Ok y) → x ≡ y
-ok_in {X} {F} x y e = ap of e
-  where
-    of : Result X F → X
-    of (Ok z) = z
-    of (Err f) = x
+use Rattle.jl_words.proofs.ValueLaws.{whole}
 
 pub err_ok : {X F : Type 0} (f : F) (y : X) → ◌≡◌ {A = Result X F} (Err f) (Ok y) → ⊥
 err_ok f y e = true≢false (sym (ap is_ok e))
-
-pub off : (a : Bool) → not a ≡ true → a ≡ false
-off true e = absurd (true≢false (sym e))
-off false e = refl
 
 -- ---- what a value gives
 
@@ -59,24 +51,16 @@ fine settings.AddOpens value = is_some (added_of settings.AddOpens value)
 fine settings.Steps value = is_some (number_of value)
 fine settings.Report value = true
 
+put_fact : (r : Option Added) (at : ℕ) (given : Given) → is_some r ≡ true → with_added r at given ≡ Ok (record given { added = given.added ++ listed_fact r })
+put_fact None at given is = absurd (true≢false (sym is))
+put_fact (Some a) at given is = refl
+
 pub put_value : (s : Setting) (value : List ℕ) (at : ℕ) (given : Given) → fine s value ≡ true → with_value s value at given ≡ Ok (put s value given)
 put_value settings.ModulePath value at given is = refl
 put_value settings.AddModules value at given is = rw is refl
-put_value settings.AddReads value at given is = by (added_of settings.AddReads value) is
-  where
-    by : (r : Option Added) → is_some r ≡ true → with_added r at given ≡ Ok (record given { added = given.added ++ listed_fact r })
-    by None is = absurd (true≢false (sym is))
-    by (Some a) is = refl
-put_value settings.AddExports value at given is = by (added_of settings.AddExports value) is
-  where
-    by : (r : Option Added) → is_some r ≡ true → with_added r at given ≡ Ok (record given { added = given.added ++ listed_fact r })
-    by None is = absurd (true≢false (sym is))
-    by (Some a) is = refl
-put_value settings.AddOpens value at given is = by (added_of settings.AddOpens value) is
-  where
-    by : (r : Option Added) → is_some r ≡ true → with_added r at given ≡ Ok (record given { added = given.added ++ listed_fact r })
-    by None is = absurd (true≢false (sym is))
-    by (Some a) is = refl
+put_value settings.AddReads value at given is = put_fact (added_of settings.AddReads value) at given is
+put_value settings.AddExports value at given is = put_fact (added_of settings.AddExports value) at given is
+put_value settings.AddOpens value at given is = put_fact (added_of settings.AddOpens value) at given is
 put_value settings.Steps value at given is = by (number_of value) is
   where
     by : (r : Option ℕ) → is_some r ≡ true → with_steps r at given ≡ Ok (record given { steps = r })
@@ -109,7 +93,7 @@ fine_value settings.Report value at given after e = refl
 taken_value : (s : Setting) (value : List ℕ) (at : ℕ) (given after : Given) → with_value s value at given ≡ Ok after → (fine s value ≡ true) × (put s value given ≡ after)
 taken_value s value at given after e =
     let good = fine_value s value at given after e in
-    (good, ok_in {F = WordFault} _ _ (sym (put_value s value at given good) ∙ e))
+    (good, ok_is {F = WordFault} _ _ (sym (put_value s value at given good) ∙ e))
 
 -- ---- the words of a use
 
@@ -120,47 +104,22 @@ named_word s (Some value) = setting_text s ++ 61 ∷ value
 text_whole : (s : Setting) → parted 61 (setting_text s) ≡ None
 unfolding parted
 text_whole settings.ModulePath = refl
-text_whole settings.AddModules = refl
-text_whole settings.AddReads = refl
-text_whole settings.AddExports = refl
-text_whole settings.AddOpens = refl
-text_whole settings.Steps = refl
-text_whole settings.Report = refl
+text_whole _ = refl
 
 text_cut : (s : Setting) (value : List ℕ) → parted 61 (setting_text s ++ 61 ∷ value) ≡ Some (setting_text s, value)
 unfolding parted
 text_cut settings.ModulePath value = refl
-text_cut settings.AddModules value = refl
-text_cut settings.AddReads value = refl
-text_cut settings.AddExports value = refl
-text_cut settings.AddOpens value = refl
-text_cut settings.Steps value = refl
-text_cut settings.Report value = refl
+text_cut _ value = refl
 
 text_names : (s : Setting) → setting_of (setting_text s) ≡ Some s
 text_names settings.ModulePath = refl
-text_names settings.AddModules = refl
-text_names settings.AddReads = refl
-text_names settings.AddExports = refl
-text_names settings.AddOpens = refl
-text_names settings.Steps = refl
-text_names settings.Report = refl
+text_names _ = refl
 
 text_dash : (s : Setting) (v : Option (List ℕ)) → is_option (Some (named_word s v)) ≡ true
 text_dash settings.ModulePath None = refl
 text_dash settings.ModulePath (Some v) = refl
-text_dash settings.AddModules None = refl
-text_dash settings.AddModules (Some v) = refl
-text_dash settings.AddReads None = refl
-text_dash settings.AddReads (Some v) = refl
-text_dash settings.AddExports None = refl
-text_dash settings.AddExports (Some v) = refl
-text_dash settings.AddOpens None = refl
-text_dash settings.AddOpens (Some v) = refl
-text_dash settings.Steps None = refl
-text_dash settings.Steps (Some v) = refl
-text_dash settings.Report None = refl
-text_dash settings.Report (Some v) = refl
+text_dash _ None = refl
+text_dash _ (Some v) = refl
 
 pub same_text : (a b : List ℕ) → is_text a b ≡ true → a ≡ b
 same_text a b e = (bytes_decides a b).0 e
@@ -170,13 +129,13 @@ tested : (text : List ℕ) (t s : Setting) (rest : Option Setting) → (rest ≡
 tested text t s rest later e = by (is_text text (setting_text t)) refl e
   where
     by : (b : Bool) → is_text text (setting_text t) ≡ b → cond b (Some t) rest ≡ Some s → text ≡ setting_text s
-    by true is e = same_text text (setting_text t) is ∙ ap setting_text (same_in t s e)
+    by true is e = same_text text (setting_text t) is ∙ ap setting_text (same_Some t s e)
     by false is e = later e
 
 setting_is : (text : List ℕ) (s : Setting) → setting_of text ≡ Some s → text ≡ setting_text s
 setting_is text s =
     tested text settings.ModulePath s _ (tested text settings.AddModules s _ (tested text settings.AddReads s _ (tested text settings.AddExports s _ (tested text settings.AddOpens s _
-    (tested text settings.Steps s _ (tested text settings.Report s None (λ e. absurd (none_some s e))))))))
+    (tested text settings.Steps s _ (tested text settings.Report s None (λ e. absurd (none-some s e))))))))
 
 pub record Named (verb : Verb) (word : List ℕ) (s : Setting) (v : Option (List ℕ)) : Type 0 where
   pub text : word ≡ named_word s v
@@ -184,20 +143,20 @@ pub record Named (verb : Verb) (word : List ℕ) (s : Setting) (v : Option (List
   pub flag : (is_flag s && is_some v) ≡ false
 
 fitting_named : (verb : Verb) (text word : List ℕ) (o : Option Setting) (v w : Option (List ℕ)) (s : Setting) → (o ≡ Some s → word ≡ named_word s v) → fitting verb o v ≡ Some (s, w) → Named verb word s w
-fitting_named verb text word None v w s is e = absurd (none_some _ e)
+fitting_named verb text word None v w s is e = absurd (none-some _ e)
 fitting_named verb text word (Some t) v w s is e = by (fits verb t v) refl e
   where
     by : (b : Bool) → fits verb t v ≡ b → cond {A = Option (Setting × Option (List ℕ))} b (Some (t, v)) None ≡ Some (s, w) → Named verb word s w
-    by false fit e = absurd (none_some _ e)
+    by false fit e = absurd (none-some _ e)
     by true fit e =
-        let same = same_in (t, v) (s, w) e in
+        let same = same_Some (t, v) (s, w) e in
         let first : t ≡ s = ap (λ x. x.0) same in
         let second : v ≡ w = ap (λ x. x.1) same in
-        let parts = both (has_setting verb t) _ fit in
+        let parts = and_parts (has_setting verb t) _ fit in
         record {
           text = is (ap Some first) ∙ ap (named_word s) second;
           has = subst (λ x. has_setting verb x ≡ true) first parts.0;
-          flag = subst (λ x. (is_flag x.0 && is_some x.1) ≡ false) same (off _ parts.1);
+          flag = subst (λ x. (is_flag x.0 && is_some x.1) ≡ false) same (not-true _ parts.1);
         }
 
 named_whole : (verb : Verb) (word : List ℕ) → parted 61 word ≡ None → named_by verb word ≡ fitting verb (setting_of word) None
@@ -246,8 +205,8 @@ tail_of (w ∷ ws) = ws
 
 -- a word at a place, and the words from there on
 pub at_word : (words : List (List ℕ)) (at : ℕ) (word : List ℕ) → slice_get words at ≡ Some word → drop at words ≡ word ∷ drop (suc at) words
-at_word [] at word e = absurd (none_some word e)
-at_word (w ∷ ws) zero word e = ap (λ x. x ∷ ws) (same_in w word e)
+at_word [] at word e = absurd (none-some word e)
+at_word (w ∷ ws) zero word e = ap (λ x. x ∷ ws) (same_Some w word e)
 at_word (w ∷ ws) (suc at) word e = at_word ws at word e
 
 pub from_word : (words : List (List ℕ)) (at : ℕ) (word : List ℕ) (rest : List (List ℕ)) → drop at words ≡ word ∷ rest → (slice_get words at ≡ Some word) × (drop (suc at) words ≡ rest)
@@ -266,12 +225,8 @@ pub record Used (verb : Verb) (words : List (List ℕ)) (given after : Given) (a
 and_then_is : (r : Result Given WordFault) (n next : ℕ) (after : Given) → and_then r n ≡ Ok (after, next) → (r ≡ Ok after) × (n ≡ next)
 and_then_is (Err f) n next after e = absurd (err_ok _ _ e)
 and_then_is (Ok g) n next after e =
-    let same = ok_in {F = WordFault} (g, n) (after, next) e in
+    let same = ok_is {F = WordFault} (g, n) (after, next) e in
     (ap (λ x. Ok x.0) same, ap (λ x. x.1) same)
-
-off_both : (a : Bool) → (a && true) ≡ false → a ≡ false
-off_both true e = absurd (true≢false e)
-off_both false e = refl
 
 valued_flag : (s : Setting) (words : List (List ℕ)) (given : Given) (at : ℕ) → is_flag s ≡ true → valued s None words given at ≡ and_then (with_value s [] at given) (at + 1)
 valued_flag s words given at flag = rw flag refl
@@ -282,26 +237,26 @@ valued_lacks s words given at flag second = rw flag (rw second refl)
 valued_apart : (s : Setting) (words : List (List ℕ)) (given : Given) (at : ℕ) (value : List ℕ) → is_flag s ≡ false → slice_get words (at + 1) ≡ Some value → valued s None words given at ≡ and_then (with_value s value (at + 1) given) (at + 2)
 valued_apart s words given at value flag second = rw flag (rw second refl)
 
-flag_words : (s : Setting) → is_flag s ≡ true → use_words (record { setting = s; value = []; joined = false }) ≡ setting_text s ∷ []
-flag_words s flag = rw flag refl
+flag_use : (u : Use) → is_flag u.setting ≡ true → use_words u ≡ setting_text u.setting ∷ []
+flag_use u flag = rw flag refl
 
-joined_words : (s : Setting) (value : List ℕ) → is_flag s ≡ false → use_words (record { setting = s; value = value; joined = true }) ≡ (setting_text s ++ 61 ∷ value) ∷ []
-joined_words s value flag = rw flag refl
+joined_use : (u : Use) → is_flag u.setting ≡ false → u.joined ≡ true → use_words u ≡ (setting_text u.setting ++ 61 ∷ u.value) ∷ []
+joined_use u flag is = rw (flag, is) refl
 
-apart_words : (s : Setting) (value : List ℕ) → is_flag s ≡ false → use_words (record { setting = s; value = value; joined = false }) ≡ setting_text s ∷ value ∷ []
-apart_words s value flag = rw flag refl
+apart_use : (u : Use) → is_flag u.setting ≡ false → u.joined ≡ false → use_words u ≡ setting_text u.setting ∷ u.value ∷ []
+apart_use u flag is = rw (flag, is) refl
 
 module _ (verb : Verb) (words : List (List ℕ)) (given after : Given) (at next : ℕ) (word : List ℕ) (s : Setting) (here : drop at words ≡ word ∷ drop (suc at) words) (first : is_given s given ≡ false) where
   used_joined : (value : List ℕ) → Named verb word s (Some value) → and_then (with_value s value at given) (at + 1) ≡ Ok (after, next) → Used verb words given after at next
   used_joined value named e =
-      let flag : is_flag s ≡ false = off_both (is_flag s) named.flag in
+      let flag : is_flag s ≡ false = sym (and-true (is_flag s)) ∙ named.flag in
       let parts = and_then_is (with_value s value at given) (at + 1) next after e in
       let on : suc at ≡ next = omega (arith, parts.1) in
       let taken = taken_value s value at given after parts.0 in
       record {
         it = record { setting = s; value = value; joined = true };
         adds = record { is = record { has = named.has; flag = λ f. absurd (true≢false (sym f ∙ flag)) }; first = first; good = taken.0; gives = taken.1 };
-        text = here ∙ ap (λ w. w ∷ drop (suc at) words) named.text ∙ ap (λ n. (setting_text s ++ 61 ∷ value) ∷ drop n words) on ∙ ap (λ l. l ++ drop next words) (sym (joined_words s value flag));
+        text = here ∙ ap (λ w. w ∷ drop (suc at) words) named.text ∙ ap (λ n. (setting_text s ++ 61 ∷ value) ∷ drop n words) on ∙ ap (λ l. l ++ drop next words) (sym (joined_use (record { setting = s; value = value; joined = true }) flag refl));
         further = omega (arith, parts.1);
       }
 
@@ -313,7 +268,7 @@ module _ (verb : Verb) (words : List (List ℕ)) (given after : Given) (at next 
       record {
         it = record { setting = s; value = []; joined = false };
         adds = record { is = record { has = named.has; flag = λ f. (refl, refl) }; first = first; good = taken.0; gives = taken.1 };
-        text = here ∙ ap (λ w. w ∷ drop (suc at) words) named.text ∙ ap (λ n. setting_text s ∷ drop n words) on ∙ ap (λ l. l ++ drop next words) (sym (flag_words s flag));
+        text = here ∙ ap (λ w. w ∷ drop (suc at) words) named.text ∙ ap (λ n. setting_text s ∷ drop n words) on ∙ ap (λ l. l ++ drop next words) (sym (flag_use (record { setting = s; value = []; joined = false }) flag));
         further = omega (arith, parts.1);
       }
 
@@ -328,7 +283,7 @@ module _ (verb : Verb) (words : List (List ℕ)) (given after : Given) (at next 
       record {
         it = record { setting = s; value = value; joined = false };
         adds = record { is = record { has = named.has; flag = λ f. absurd (true≢false (sym f ∙ flag)) }; first = first; good = taken.0; gives = taken.1 };
-        text = here ∙ ap (λ w. w ∷ drop (suc at) words) named.text ∙ ap (λ l. setting_text s ∷ l) more ∙ ap (λ l. l ++ drop next words) (sym (apart_words s value flag));
+        text = here ∙ ap (λ w. w ∷ drop (suc at) words) named.text ∙ ap (λ l. setting_text s ∷ l) more ∙ ap (λ l. l ++ drop next words) (sym (apart_use (record { setting = s; value = value; joined = false }) flag refl));
         further = omega (arith, parts.1);
       }
 
@@ -356,15 +311,6 @@ used_from verb words given after at next word here e = by (named_by verb word) (
     by None is e = absurd (err_ok _ _ e)
     by (Some x) is e = new x.0 x.1 (is x.0 x.1 refl) (is_given x.0 given) refl e
 
-flag_use : (u : Use) → is_flag u.setting ≡ true → use_words u ≡ setting_text u.setting ∷ []
-flag_use u flag = rw flag refl
-
-joined_use : (u : Use) → is_flag u.setting ≡ false → u.joined ≡ true → use_words u ≡ (setting_text u.setting ++ 61 ∷ u.value) ∷ []
-joined_use u flag is = rw (flag, is) refl
-
-apart_use : (u : Use) → is_flag u.setting ≡ false → u.joined ≡ false → use_words u ≡ setting_text u.setting ∷ u.value ∷ []
-apart_use u flag is = rw (flag, is) refl
-
 -- a use is read as an option
 pub used_read : (verb : Verb) (words rest : List (List ℕ)) (given after : Given) (at : ℕ) (u : Use) → Adds verb u given after → drop at words ≡ use_words u ++ rest
     → (next : ℕ) × (is_option (slice_get words at) ≡ true) × (use_of (named_by verb (word_of (slice_get words at))) words given at ≡ Ok (after, next)) × (drop next words ≡ rest)
@@ -383,16 +329,12 @@ used_read verb words rest given after at u adds text = by (is_flag u.setting) re
     no_flag : is_flag u.setting ≡ false → (is_flag u.setting && true) ≡ false
     no_flag f = ap (λ t. t && true) f
 
-    no_value : (t : Bool) → (t && false) ≡ false
-    no_value true = refl
-    no_value false = refl
-
     by : (t : Bool) → is_flag u.setting ≡ t → (j : Bool) → u.joined ≡ j → (next : ℕ) × (is_option (slice_get words at) ≡ true) × (use_of (named_by verb (word_of (slice_get words at))) words given at ≡ Ok (after, next)) × (drop next words ≡ rest)
     by true flag j is =
         let place : at + 1 ≡ suc at = omega arith in
         let none = (adds.is.flag flag).0 in
         let here = from_word words at (setting_text u.setting) rest (text ∙ ap (λ l. l ++ rest) (flag_use u flag)) in
-        let both = reads None (suc at) (no_value (is_flag u.setting)) here.0 (valued_flag u.setting words given at flag ∙ ap (λ v. and_then (with_value u.setting v at given) (at + 1)) (sym none) ∙ ap (λ r. and_then r (at + 1)) (taken at) ∙ ap (λ n. Ok (after, n)) place) in
+        let both = reads None (suc at) (and-false (is_flag u.setting)) here.0 (valued_flag u.setting words given at flag ∙ ap (λ v. and_then (with_value u.setting v at given) (at + 1)) (sym none) ∙ ap (λ r. and_then r (at + 1)) (taken at) ∙ ap (λ n. Ok (after, n)) place) in
         (suc at, both.0, both.1, here.1)
     by false flag true is =
         let place : at + 1 ≡ suc at = omega arith in
@@ -404,5 +346,5 @@ used_read verb words rest given after at u adds text = by (is_flag u.setting) re
         let two : at + 2 ≡ suc (suc at) = omega arith in
         let here = from_word words at (setting_text u.setting) (u.value ∷ rest) (text ∙ ap (λ l. l ++ rest) (apart_use u flag is)) in
         let second = from_word words (suc at) u.value rest here.1 in
-        let both = reads None (suc (suc at)) (no_value (is_flag u.setting)) here.0 (valued_apart u.setting words given at u.value flag (ap (slice_get words) place ∙ second.0) ∙ ap (λ r. and_then r (at + 2)) (taken (at + 1)) ∙ ap (λ n. Ok (after, n)) two) in
+        let both = reads None (suc (suc at)) (and-false (is_flag u.setting)) here.0 (valued_apart u.setting words given at u.value flag (ap (slice_get words) place ∙ second.0) ∙ ap (λ r. and_then r (at + 2)) (taken (at + 1)) ∙ ap (λ n. Ok (after, n)) two) in
         (suc (suc at), both.0, both.1, second.1)

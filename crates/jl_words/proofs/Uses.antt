@@ -1,8 +1,9 @@
 -- Options one after the other, as a loop reads them.
-use Rattle.std.proofs.Common.{◌≡◌, ℕ, zero, suc, ◌-◌, ◌+◌, ◌≤◌, ◌<◌, List, true, false, Option, None, Some, Result, Ok, Err, refl, sym, ap, ◌∙◌, arith}
-use Rattle.std.specs.Prelude.{MatchOption, slice_get, ⊤}
+use Rattle.std.proofs.Common.{◌≡◌, ℕ, zero, suc, ◌-◌, ◌+◌, ◌≤◌, ◌<◌, List, true, false, Result, Ok, refl, sym, ap, ◌∙◌, arith}
+use Rattle.std.specs.Prelude.{slice_get}
 use Rattle.jl_logic.specs.Answers.{Fails}
 use Rattle.jl_reading.specs.Reading.{◌>>=◌}
+use Rattle.jl_reading.proofs.Steps.{fails_as}
 use Rattle.jl_words.specs.declared.fault.WordFault.{WordFault}
 use Rattle.jl_words.specs.declared.given.Given.{Given}
 use Rattle.jl_words.specs.declared.setting.Verb.{Verb}
@@ -33,15 +34,11 @@ pub options_more : (count i : ℕ) (verb : Verb) (words : List (List ℕ)) (give
 options_more count i verb words given more at next total lt go h so_far =
     ap (λ r. r >>= λ x. options_from (count - (i + 1)) verb words x.0 x.1) (sym h) ∙ sym (step_at count i verb words given at lt go) ∙ so_far
 
-fails_as : (told : Option WordFault) (r total : Result (Given × ℕ) WordFault) (f : Given × ℕ → Result (Given × ℕ) WordFault) → MatchOption told ⊤ (λ d. r ≡ Err d) → (r >>= f) ≡ total → MatchOption told ⊤ (λ d. total ≡ Err d)
-fails_as None r total f h e = tt
-fails_as (Some d) r total f h e = sym e ∙ ap (λ x. x >>= f) h
-
 -- an option that is not read ends the reading
 pub options_end : (e : WordFault) (count i : ℕ) (verb : Verb) (words : List (List ℕ)) (given : Given) (at : ℕ) (total : Result (Given × ℕ) WordFault) → i < count → is_option (slice_get words at) ≡ true → Fails told e (used verb words given at)
     → options_from (count - i) verb words given at ≡ total → Fails told e total
 options_end e count i verb words given at total lt go h so_far =
-    fails_as (told e) (used verb words given at) total (λ x. options_from (count - (i + 1)) verb words x.0 x.1) h (sym (step_at count i verb words given at lt go) ∙ so_far)
+    fails_as (told e) (used verb words given at) (λ x. options_from (count - (i + 1)) verb words x.0 x.1) total h (sym (step_at count i verb words given at lt go) ∙ so_far)
 
 -- all words are options
 pub options_done : (count i : ℕ) (verb : Verb) (words : List (List ℕ)) (given : Given) (at : ℕ) (total : Result (Given × ℕ) WordFault) → count ≤ i → options_from (count - i) verb words given at ≡ total → total ≡ Ok (given, at)

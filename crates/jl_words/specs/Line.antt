@@ -1,6 +1,7 @@
 -- What a well-formed command line is.
-use Rattle.std.specs.Prelude.{◌≡◌, ℕ, ◌≤◌, List, [], ◌∷◌, ◌++◌, length, map, filter, Bool, true, false, ◌||◌, ◌==◌, IsTrue, ⊤, if◌then◌else◌}
+use Rattle.std.specs.Prelude.{◌≡◌, ℕ, ◌≤◌, List, [], ◌∷◌, ◌++◌, length, map, filter, Bool, true, false, ◌||◌, ◌==◌, IsTrue, if◌then◌else◌}
 use Rattle.std.specs.List.{flat_map, AllByRecursion}
+use Rattle.jl_logic.specs.Lists.{Match}
 use Rattle.jl_prim.specs.Names.{names_a_module}
 use Rattle.jl_words.specs.declared.command.Added.{Added}
 use Rattle.jl_words.specs.declared.command.RunWords.{RunWords}
@@ -42,13 +43,6 @@ pub record IsUse (verb : Verb) (u : Use) : Type 0 where
 pub record AreUses (verb : Verb) (uses : List Use) : Type 0 where
   pub each : AllByRecursion (IsUse verb) uses
   pub once : (s : Setting) → is_single s ≡ true → length (uses_of s uses) ≤ 1
-
--- one of these for each of those, in order
-abbrev pub Match : {A B : Type 0} → (A → B → Type 0) → List A → List B → Type 0
-Match R [] [] = ⊤
-Match R (x ∷ xs) (y ∷ ys) = R x y × Match R xs ys
-Match R [] (y ∷ ys) = ⊥
-Match R (x ∷ xs) [] = ⊥
 
 abbrev pub adds : Use → Bool
 adds u = is_setting settings.AddReads u.setting || (is_setting settings.AddExports u.setting || is_setting settings.AddOpens u.setting)

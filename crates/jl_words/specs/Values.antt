@@ -1,21 +1,13 @@
 -- The values of options and the operands: what their texts mean.
-use Rattle.std.specs.Prelude.{◌≡◌, ℕ, ◌+◌, ◌-◌, ◌*◌, ◌<◌, ◌^◌, nat_le, nat_lt, List, [], ◌∷◌, ◌++◌, length, filter, Option, None, Some, Bool, true, false, not, ◌&&◌, ◌==◌, IsTrue, if◌then◌else◌}
+use Rattle.std.specs.Prelude.{◌≡◌, ℕ, ◌+◌, ◌-◌, ◌*◌, ◌<◌, ◌^◌, nat_le, nat_lt, List, [], ◌∷◌, ◌++◌, length, filter, Option, None, Some, Bool, not, ◌&&◌, ◌==◌, IsTrue, if◌then◌else◌}
 use Rattle.std.specs.List.{list_all, list_any}
 use Rattle.jl_prim.specs.Names.{names_a_module}
-use Rattle.jl_names.specs.Names.{names_a_class, is_slash}
+use Rattle.jl_names.specs.Names.{is_slash, is_empty, with_first, names_a_class}
 use Rattle.jl_names.specs.Dots.{slashed}
 use Rattle.jl_words.specs.declared.command.Added.{Added}
 use Rattle.jl_words.specs.declared.command.Added.TheVariants.{Reads, Exports, Opens}
 use Rattle.jl_words.specs.declared.setting.Setting.{Setting}
 use Rattle.jl_words.specs.declared.setting.Setting.TheVariants as settings
-
-abbrev pub is_empty : List ℕ → Bool
-is_empty [] = true
-is_empty (b ∷ bs) = false
-
-abbrev pub with_first : ℕ → List (List ℕ) → List (List ℕ)
-with_first b [] = (b ∷ []) ∷ []
-with_first b (p ∷ ps) = (b ∷ p) ∷ ps
 
 -- what stands between the separators of a text, one more than there are separators
 unfoldable pub split : ℕ → List ℕ → List (List ℕ)

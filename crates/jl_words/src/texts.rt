@@ -3,7 +3,8 @@
 ghost use Rattle.std.specs.Prelude.{◌≡◌, ◌<◌, ◌++◌, ◌∷◌, [], length, map, filter, option_map, not, IfOk, IfSome, Some, None, nat_lt, ◌^◌, ◌*◌, ◌+◌, ◌-◌, IsTrue, if◌then◌else◌};
 ghost use Rattle.std.specs.List.{list_all};
 ghost use Rattle.jl_words.specs.Values as values;
-ghost use Rattle.jl_words.specs.Values.{is_empty, is_digit};
+ghost use Rattle.jl_names.specs.Names.{is_empty};
+ghost use Rattle.jl_words.specs.Values.{is_digit};
 ghost use Rattle.jl_words.specs.Reading as reading;
 
 use jl_prim::{CopyEnd, Items, Name};
