@@ -1,4 +1,5 @@
 pub mod Building
 pub mod Built
 pub mod Faults
+pub mod Keys
 pub mod Writing

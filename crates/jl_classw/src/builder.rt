@@ -18,6 +18,7 @@ ghost use Rattle.jl_classw.specs.Built.{IsSuper, IsShortEntry, IsTagged, MayHave
 ghost use Rattle.jl_classw.specs.Building.{new_class, with_entry, with_interface, with_field, with_method};
 
 use crate::entering::{enter_class, enter_new};
+use crate::entries::Entries;
 use crate::entry::{Constant, NewEntry};
 use crate::fault::{WriteFault, too_many};
 use crate::needs::{enter_code, enter_name, enter_optional, enter_super, has_many_handlers};
@@ -43,7 +44,7 @@ pub struct ClassBuilder {
     interfaces: Vec<Name>,
     fields: Vec<FieldDecl>,
     methods: Vec<MethodDecl>,
-    entries: Vec<Entry>,
+    entries: Entries,
 }
 
 impl Model for ClassBuilder {
@@ -53,9 +54,9 @@ impl Model for ClassBuilder {
 
     ghost Value = { Class };
 
-    ghost view = { λ b. record { major = b.major; minor = 0; flags = b.flags; name = b.name; super_name = b.super_name; interfaces = b.interfaces.items; fields = b.fields.items; methods = b.methods.items; pool = b.entries.items } };
+    ghost view = { λ b. record { major = b.major; minor = 0; flags = b.flags; name = b.name; super_name = b.super_name; interfaces = b.interfaces.items; fields = b.fields.items; methods = b.methods.items; pool = b.entries } };
 
-    ghost invariant = { λ b. (length b.entries.items < 65536) × IsBuilt (record { major = b.major; minor = 0; flags = b.flags; name = b.name; super_name = b.super_name; interfaces = b.interfaces.items; fields = b.fields.items; methods = b.methods.items; pool = b.entries.items }) };
+    ghost invariant = { λ b. (length b.entries < 65536) × IsBuilt (record { major = b.major; minor = 0; flags = b.flags; name = b.name; super_name = b.super_name; interfaces = b.interfaces.items; fields = b.fields.items; methods = b.methods.items; pool = b.entries }) };
 }
 
 impl ClassBuilder {
@@ -76,8 +77,7 @@ impl ClassBuilder {
         requires extends { IsTrue (may_extend flags this.now (option_copied super_name)) }
         ensures { Gives told (λ b. b) result (new_class major flags this.now (option_copied super_name.entry)) }
     {
-        let mut first = Vec::new(alloc);
-        first.push(Entry::Unused)?;
+        let first = Entries::first(alloc)?;
         let (added, _) = enter_class(&first, Vec::new(alloc), this)?;
         let (added, _) = enter_super(&first, added, super_name)?;
         Ok(ClassBuilder {
@@ -105,8 +105,8 @@ impl ClassBuilder {
         ensures exact { Gives told (λ i. (self.new, i)) result (with_entry self.old entry) }
         ensures err { OnErr result (self.new ≡ self.old) }
     {
-        let (mut added, index) = enter_new(&self.entries, Vec::new(self.alloc), entry)?;
-        self.entries.append(&mut added)?;
+        let (added, index) = enter_new(&self.entries, Vec::new(self.alloc), entry)?;
+        self.entries.append(added)?;
         Ok(index)
     }
 
@@ -247,7 +247,7 @@ impl ClassBuilder {
             Items::from_vec(interfaces),
             Items::from_vec(fields),
             Items::from_vec(methods),
-            Pool::from_entries(entries),
+            Pool::from_entries(entries.into_vec()),
         ))
     }
 }
@@ -286,36 +286,36 @@ fn copied(name: Option<&Name>) -> Result<Option<Name>, WriteFault>
     }
 }
 
-fn appended(first: Vec<Entry>, added: Vec<Entry>) -> Result<Vec<Entry>, WriteFault>
-    ensures items { IfOk result (λ all. all.items ≡ first.items ++ added.items) }
+fn appended(first: Entries, added: Vec<Entry>) -> Result<Entries, WriteFault>
+    requires { length (first ++ added.items) < 65536 }
+    ensures items { IfOk result (λ all. all ≡ first ++ added.items) }
     ensures memory { IsOkUnless result WriteFault.NoMemory }
 {
     let mut all = first;
-    let mut rest = added;
-    all.append(&mut rest)?;
+    all.append(added)?;
     Ok(all)
 }
 
 /// Puts entries behind a pool, and a row behind its table. Without memory both stay as they are.
 fn put<T: Drop>(
-    entries: &mut Vec<Entry>,
+    entries: &mut Entries,
     added: Vec<Entry>,
     rows: &mut Vec<T>,
     row: T,
 ) -> Result<(), WriteFault>
-    ensures entries { OnOk result (entries.new.items ≡ entries.old.items ++ added.items) }
+    requires { length (entries.old ++ added.items) < 65536 }
+    ensures entries { OnOk result (entries.new ≡ entries.old ++ added.items) }
     ensures rows { OnOk result (rows.new.items ≡ rows.old.items ++ row ∷ []) }
-    ensures same_entries { OnErr result (entries.new.items ≡ entries.old.items) }
+    ensures same_entries { OnErr result (entries.new ≡ entries.old) }
     ensures same_rows { OnErr result (rows.new.items ≡ rows.old.items) }
     ensures memory { IsOkUnless result WriteFault.NoMemory }
 {
-    let mut rest = added;
     rows.push(row)?;
-    match entries.append(&mut rest) {
+    match entries.append(added) {
         Ok(()) => Ok(()),
-        Err(_) => {
+        Err(fault) => {
             rows.pop();
-            Err(WriteFault::NoMemory)
+            Err(fault)
         }
     }
 }

@@ -5,6 +5,7 @@ mod builder;
 mod conditions;
 mod constants;
 mod entering;
+mod entries;
 mod entry;
 mod fault;
 mod members;
