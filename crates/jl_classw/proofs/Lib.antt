@@ -11,3 +11,4 @@ pub mod DistinctLaws
 pub mod BuiltLaws
 pub mod UnitLaws
 pub mod KeyLaws
+pub mod HintLaws

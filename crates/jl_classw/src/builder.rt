@@ -2,15 +2,11 @@
 
 mod calls;
 
-ghost use Rattle.std.specs.Prelude.{◌&&◌, ◌≡◌, ◌<◌, ◌++◌, [], ◌∷◌, length, ℕ, List, false, is_some, map, OnOk, OnErr, IfOk, IsTrue, IsOkUnless, ◌⊎◌};
+ghost use Rattle.std.specs.Prelude.{◌≡◌, ◌<◌, ◌++◌, [], ◌∷◌, length, ℕ, List, false, is_some, map, OnOk, OnErr, IfOk, IsTrue, IsOkUnless, ◌⊎◌};
 ghost use Rattle.std.specs.Option.{option_copied};
-ghost use Rattle.std.specs.List.{list_any};
 ghost use Rattle.jl_logic.specs.Answers.{Gives};
-ghost use Rattle.jl_logic.specs.Order.{is_text};
 ghost use Rattle.jl_names.specs.Names.{names_a_class, names_a_field};
 ghost use Rattle.jl_pool.specs.Builder.{IsShort};
-ghost use Rattle.jl_class.specs.declared.member.FieldDecl.{FieldDecl};
-ghost use Rattle.jl_class.specs.declared.member.MethodDecl.{MethodDecl};
 ghost use Rattle.jl_class.specs.Meaning.{field_key, method_key, is_member_among, are_class_flags, are_field_flags, are_method_flags, is_interface, may_extend, names_method_with, describes_a_field, describes_method_with, has_code};
 ghost use Rattle.jl_class.specs.Spelling.{IsClass};
 ghost use Rattle.jl_classw.specs.Faults.{told};
@@ -21,6 +17,7 @@ use crate::entering::{enter_class, enter_new};
 use crate::entries::Entries;
 use crate::entry::{Constant, NewEntry};
 use crate::fault::{WriteFault, too_many};
+use crate::member_table::{Member, MemberTable};
 use crate::needs::{enter_code, enter_name, enter_optional, enter_super, has_many_handlers};
 use bitflags::Flags;
 use jl_class::{ClassDecl, CodeBytes, FieldDecl, MethodDecl};
@@ -42,8 +39,8 @@ pub struct ClassBuilder {
     name: Name,
     super_name: Option<Name>,
     interfaces: Vec<Name>,
-    fields: Vec<FieldDecl>,
-    methods: Vec<MethodDecl>,
+    fields: MemberTable<FieldDecl>,
+    methods: MemberTable<MethodDecl>,
     entries: Entries,
 }
 
@@ -54,9 +51,9 @@ impl Model for ClassBuilder {
 
     ghost Value = { Class };
 
-    ghost view = { λ b. record { major = b.major; minor = 0; flags = b.flags; name = b.name; super_name = b.super_name; interfaces = b.interfaces.items; fields = b.fields.items; methods = b.methods.items; pool = b.entries } };
+    ghost view = { λ b. record { major = b.major; minor = 0; flags = b.flags; name = b.name; super_name = b.super_name; interfaces = b.interfaces.items; fields = b.fields; methods = b.methods; pool = b.entries } };
 
-    ghost invariant = { λ b. (length b.entries < 65536) × IsBuilt (record { major = b.major; minor = 0; flags = b.flags; name = b.name; super_name = b.super_name; interfaces = b.interfaces.items; fields = b.fields.items; methods = b.methods.items; pool = b.entries }) };
+    ghost invariant = { λ b. (length b.entries < 65536) × IsBuilt (record { major = b.major; minor = 0; flags = b.flags; name = b.name; super_name = b.super_name; interfaces = b.interfaces.items; fields = b.fields; methods = b.methods; pool = b.entries }) };
 }
 
 impl ClassBuilder {
@@ -87,8 +84,8 @@ impl ClassBuilder {
             name: this.copy()?,
             super_name: copied(super_name)?,
             interfaces: Vec::new(alloc),
-            fields: Vec::new(alloc),
-            methods: Vec::new(alloc),
+            fields: MemberTable::new(alloc),
+            methods: MemberTable::new(alloc),
             entries: appended(first, added)?,
         })
     }
@@ -157,7 +154,7 @@ impl ClassBuilder {
             desc: desc.copy()?,
             constant,
         };
-        put(&mut self.entries, added, &mut self.fields, field)?;
+        put_member(&mut self.entries, added, &mut self.fields, field)?;
         Ok(())
     }
 
@@ -195,7 +192,7 @@ impl ClassBuilder {
             desc: desc.copy()?,
             code,
         };
-        put(&mut self.entries, added, &mut self.methods, method)?;
+        put_member(&mut self.entries, added, &mut self.methods, method)?;
         Ok(())
     }
 
@@ -210,14 +207,14 @@ impl ClassBuilder {
     pub fn has_field(&self, name: &Name, desc: &Name) -> bool
         ensures { result ≡ is_member_among (record { name = name.now; desc = desc.now }) (map field_key self.now.fields) }
     {
-        is_field_of(&self.fields, name, desc)
+        self.fields.has(name, desc)
     }
 
     /// Whether a method of this name and descriptor is there.
     pub fn has_method(&self, name: &Name, desc: &Name) -> bool
         ensures { result ≡ is_member_among (record { name = name.now; desc = desc.now }) (map method_key self.now.methods) }
     {
-        is_method_of(&self.methods, name, desc)
+        self.methods.has(name, desc)
     }
 
     /// The class, with its members in the order in which they were added. It can be written.
@@ -245,35 +242,11 @@ impl ClassBuilder {
             name,
             super_name,
             Items::from_vec(interfaces),
-            Items::from_vec(fields),
-            Items::from_vec(methods),
+            Items::from_vec(fields.into_vec()),
+            Items::from_vec(methods.into_vec()),
             Pool::from_entries(entries.into_vec()),
         ))
     }
-}
-
-fn is_field_of(fields: &[FieldDecl], name: &Name, desc: &Name) -> bool
-    ensures { result ≡ is_member_among (record { name = name.now; desc = desc.now }) (map field_key fields.now) }
-{
-    any_field(fields, name, desc)
-}
-
-fn any_field(fields: &[FieldDecl], name: &Name, desc: &Name) -> bool
-    ensures { result ≡ list_any (λ (f : FieldDecl). is_text name.now f.name && is_text desc.now f.desc) fields.now }
-{
-    fields.iter().any(|f| name.as_str() == f.name.as_str() && desc.as_str() == f.desc.as_str())
-}
-
-fn is_method_of(methods: &[MethodDecl], name: &Name, desc: &Name) -> bool
-    ensures { result ≡ is_member_among (record { name = name.now; desc = desc.now }) (map method_key methods.now) }
-{
-    any_method(methods, name, desc)
-}
-
-fn any_method(methods: &[MethodDecl], name: &Name, desc: &Name) -> bool
-    ensures { result ≡ list_any (λ (m : MethodDecl). is_text name.now m.name && is_text desc.now m.desc) methods.now }
-{
-    methods.iter().any(|m| name.as_str() == m.name.as_str() && desc.as_str() == m.desc.as_str())
 }
 
 fn copied(name: Option<&Name>) -> Result<Option<Name>, WriteFault>
@@ -315,6 +288,32 @@ fn put<T: Drop>(
         Ok(()) => Ok(()),
         Err(fault) => {
             rows.pop();
+            Err(fault)
+        }
+    }
+}
+
+/// Puts entries behind a pool, and a member behind its table. Without memory both stay as they are.
+fn put_member<T: Member + Drop>(
+    entries: &mut Entries,
+    added: Vec<Entry>,
+    members: &mut MemberTable<T>,
+    member: T,
+) -> Result<(), WriteFault>
+    requires room { length (entries.old ++ added.items) < 65536 }
+    requires fresh { is_member_among (T.key member) (map T.key members.old) ≡ false }
+    ensures entries { OnOk result (entries.new ≡ entries.old ++ added.items) }
+    ensures members { OnOk result (members.new ≡ members.old ++ member ∷ []) }
+    ensures same_entries { OnErr result (entries.new ≡ entries.old) }
+    ensures same_members { OnErr result (members.new ≡ members.old) }
+    ensures memory { IsOkUnless result WriteFault.NoMemory }
+{
+    let known = members.len();
+    members.push(member)?;
+    match entries.append(added) {
+        Ok(()) => Ok(()),
+        Err(fault) => {
+            members.truncate(known);
             Err(fault)
         }
     }

@@ -1,6 +1,6 @@
 //! The entries of a pool that is being made, and where each of them stands first.
 
-ghost use Rattle.std.specs.Prelude.{◌≡◌, ◌<◌, ◌≤◌, ◌++◌, [], ◌∷◌, ℕ, List, length, position, take, IfOk, IfSome, OnOk, OnErr, IsOkUnless};
+ghost use Rattle.std.specs.Prelude.{◌≡◌, ◌<◌, ◌≤◌, ◌++◌, [], ◌∷◌, ℕ, List, length, position, take, IfOk, OnOk, OnErr, IsOkUnless};
 ghost use Rattle.indexmap.specs.IndexMap.{get};
 ghost use Rattle.jl_logic.specs.Lists.{IsFront};
 ghost use Rattle.jl_logic.specs.Order.{is_text};

@@ -8,6 +8,7 @@ mod entering;
 mod entries;
 mod entry;
 mod fault;
+mod member_table;
 mod members;
 mod needs;
 mod places;
