@@ -16,7 +16,6 @@ use Rattle.jl_class.specs.declared.member.MemberKey.{MemberKey}
 use Rattle.jl_class.specs.Classes.{Class}
 use Rattle.jl_class.specs.Meaning.{super_named, may_be_constant, sets_field, names_method_with, describes_a_field, describes_method_with, field_key, method_key, is_interface, names_constant_value, names_code, names_frames}
 use Rattle.jl_class.specs.Spelling.{Attribute, Member, Parts, is_some_named, contents, AttributeFits, AreAttributes, AtMostOne, IsConstant, IsFrames, IsCode, MemberFits, IsField, IsMethod, IsTable, HasName, Declares}
-use Rattle.jl_logic.specs.Lists.{Match}
 use Rattle.jl_classw.proofs.PartLaws.{kept_contents, passed_contents}
 use Rattle.jl_classw.proofs.PoolGrowth.{Grown, still, some_of}
 

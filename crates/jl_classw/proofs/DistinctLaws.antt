@@ -1,13 +1,13 @@
 -- Members of one table that are apart.
-use Rattle.std.proofs.Common.{◌≡◌, zero, suc, Bool, true, false, List, ◌∷◌, [], ◌++◌, map, refl, sym, ap, subst, inl, inr, arith}
+use Rattle.std.proofs.Common.{◌≡◌, Bool, true, false, List, ◌∷◌, [], ◌++◌, map, refl, sym, ap, subst, inl, inr, arith}
 use Rattle.std.specs.Prelude.{◌||◌, Contains}
 use Rattle.std.specs.List.{list_any}
 use Rattle.std.specs.Cmp.Lexicographic.{bytes_decides}
 use Rattle.std.proofs.lemmas.Bool.{or_parts}
 use Rattle.std.proofs.lemmas.List.{map_push}
-use Rattle.std.proofs.lemmas.List.Elements.{Contains-push_cases, Contains-append_cases, Contains-append_right}
+use Rattle.std.proofs.lemmas.List.Elements.{Contains-append_cases}
 use Rattle.jl_logic.specs.Lists.{AreDistinct}
-use Rattle.jl_logic.proofs.Apart.{contains_first, single, distinct_push}
+use Rattle.jl_logic.proofs.Apart.{single, distinct_push}
 use Rattle.jl_class.specs.declared.member.MemberKey.{MemberKey}
 use Rattle.jl_class.specs.Meaning.{is_same_member, is_member_among}
 

@@ -10,3 +10,5 @@ pub mod EnteredLaws
 pub mod DistinctLaws
 pub mod BuiltLaws
 pub mod UnitLaws
+pub mod KeyLaws
+pub mod HintLaws

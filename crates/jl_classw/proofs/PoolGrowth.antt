@@ -178,7 +178,7 @@ few_of pool is = let len = ap length is.first in let few = is.right.few in omega
 pub small_index : (pool : List Entry) (i : ℕ) (x : Entry) → IsPool pool → slice_get pool i ≡ Some x → i < 65536
 small_index pool i x is e = let w = slice_get_within pool i x e in let few = few_of pool is in omega (arith, w, few)
 
-pair_is : (a b c d : ℕ) → (eqb a c && eqb b d) ≡ true → (a ≡ c) × (b ≡ d)
+pub pair_is : (a b c d : ℕ) → (eqb a c && eqb b d) ≡ true → (a ≡ c) × (b ≡ d)
 pair_is a b c d e = let h = and_parts (eqb a c) (eqb b d) e in (eqb-true a c h.0, eqb-true b d h.1)
 
 same_is : (a b : Entry) → is_same a b ≡ true → a ≡ b

@@ -1,4 +1,6 @@
 pub mod Building
 pub mod Built
 pub mod Faults
+pub mod Hints
+pub mod Keys
 pub mod Writing

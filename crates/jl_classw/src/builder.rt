@@ -2,15 +2,11 @@
 
 mod calls;
 
-ghost use Rattle.std.specs.Prelude.{◌&&◌, ◌≡◌, ◌<◌, ◌++◌, [], ◌∷◌, length, ℕ, List, false, is_some, map, OnOk, OnErr, IfOk, IsTrue, IsOkUnless, ◌⊎◌};
+ghost use Rattle.std.specs.Prelude.{◌≡◌, ◌<◌, ◌++◌, [], ◌∷◌, length, ℕ, List, false, is_some, map, OnOk, OnErr, IfOk, IsTrue, IsOkUnless, ◌⊎◌};
 ghost use Rattle.std.specs.Option.{option_copied};
-ghost use Rattle.std.specs.List.{list_any};
 ghost use Rattle.jl_logic.specs.Answers.{Gives};
-ghost use Rattle.jl_logic.specs.Order.{is_text};
 ghost use Rattle.jl_names.specs.Names.{names_a_class, names_a_field};
 ghost use Rattle.jl_pool.specs.Builder.{IsShort};
-ghost use Rattle.jl_class.specs.declared.member.FieldDecl.{FieldDecl};
-ghost use Rattle.jl_class.specs.declared.member.MethodDecl.{MethodDecl};
 ghost use Rattle.jl_class.specs.Meaning.{field_key, method_key, is_member_among, are_class_flags, are_field_flags, are_method_flags, is_interface, may_extend, names_method_with, describes_a_field, describes_method_with, has_code};
 ghost use Rattle.jl_class.specs.Spelling.{IsClass};
 ghost use Rattle.jl_classw.specs.Faults.{told};
@@ -18,8 +14,10 @@ ghost use Rattle.jl_classw.specs.Built.{IsSuper, IsShortEntry, IsTagged, MayHave
 ghost use Rattle.jl_classw.specs.Building.{new_class, with_entry, with_interface, with_field, with_method};
 
 use crate::entering::{enter_class, enter_new};
+use crate::entries::Entries;
 use crate::entry::{Constant, NewEntry};
 use crate::fault::{WriteFault, too_many};
+use crate::member_table::{Member, MemberTable};
 use crate::needs::{enter_code, enter_name, enter_optional, enter_super, has_many_handlers};
 use bitflags::Flags;
 use jl_class::{ClassDecl, CodeBytes, FieldDecl, MethodDecl};
@@ -41,9 +39,9 @@ pub struct ClassBuilder {
     name: Name,
     super_name: Option<Name>,
     interfaces: Vec<Name>,
-    fields: Vec<FieldDecl>,
-    methods: Vec<MethodDecl>,
-    entries: Vec<Entry>,
+    fields: MemberTable<FieldDecl>,
+    methods: MemberTable<MethodDecl>,
+    entries: Entries,
 }
 
 impl Model for ClassBuilder {
@@ -53,9 +51,9 @@ impl Model for ClassBuilder {
 
     ghost Value = { Class };
 
-    ghost view = { λ b. record { major = b.major; minor = 0; flags = b.flags; name = b.name; super_name = b.super_name; interfaces = b.interfaces.items; fields = b.fields.items; methods = b.methods.items; pool = b.entries.items } };
+    ghost view = { λ b. record { major = b.major; minor = 0; flags = b.flags; name = b.name; super_name = b.super_name; interfaces = b.interfaces.items; fields = b.fields; methods = b.methods; pool = b.entries } };
 
-    ghost invariant = { λ b. (length b.entries.items < 65536) × IsBuilt (record { major = b.major; minor = 0; flags = b.flags; name = b.name; super_name = b.super_name; interfaces = b.interfaces.items; fields = b.fields.items; methods = b.methods.items; pool = b.entries.items }) };
+    ghost invariant = { λ b. (length b.entries < 65536) × IsBuilt (record { major = b.major; minor = 0; flags = b.flags; name = b.name; super_name = b.super_name; interfaces = b.interfaces.items; fields = b.fields; methods = b.methods; pool = b.entries }) };
 }
 
 impl ClassBuilder {
@@ -76,8 +74,7 @@ impl ClassBuilder {
         requires extends { IsTrue (may_extend flags this.now (option_copied super_name)) }
         ensures { Gives told (λ b. b) result (new_class major flags this.now (option_copied super_name.entry)) }
     {
-        let mut first = Vec::new(alloc);
-        first.push(Entry::Unused)?;
+        let first = Entries::first(alloc)?;
         let (added, _) = enter_class(&first, Vec::new(alloc), this)?;
         let (added, _) = enter_super(&first, added, super_name)?;
         Ok(ClassBuilder {
@@ -87,8 +84,8 @@ impl ClassBuilder {
             name: this.copy()?,
             super_name: copied(super_name)?,
             interfaces: Vec::new(alloc),
-            fields: Vec::new(alloc),
-            methods: Vec::new(alloc),
+            fields: MemberTable::new(alloc),
+            methods: MemberTable::new(alloc),
             entries: appended(first, added)?,
         })
     }
@@ -105,8 +102,8 @@ impl ClassBuilder {
         ensures exact { Gives told (λ i. (self.new, i)) result (with_entry self.old entry) }
         ensures err { OnErr result (self.new ≡ self.old) }
     {
-        let (mut added, index) = enter_new(&self.entries, Vec::new(self.alloc), entry)?;
-        self.entries.append(&mut added)?;
+        let (added, index) = enter_new(&self.entries, Vec::new(self.alloc), entry)?;
+        self.entries.append(added)?;
         Ok(index)
     }
 
@@ -157,7 +154,7 @@ impl ClassBuilder {
             desc: desc.copy()?,
             constant,
         };
-        put(&mut self.entries, added, &mut self.fields, field)?;
+        put_member(&mut self.entries, added, &mut self.fields, field)?;
         Ok(())
     }
 
@@ -195,7 +192,7 @@ impl ClassBuilder {
             desc: desc.copy()?,
             code,
         };
-        put(&mut self.entries, added, &mut self.methods, method)?;
+        put_member(&mut self.entries, added, &mut self.methods, method)?;
         Ok(())
     }
 
@@ -210,14 +207,14 @@ impl ClassBuilder {
     pub fn has_field(&self, name: &Name, desc: &Name) -> bool
         ensures { result ≡ is_member_among (record { name = name.now; desc = desc.now }) (map field_key self.now.fields) }
     {
-        is_field_of(&self.fields, name, desc)
+        self.fields.has(name, desc)
     }
 
     /// Whether a method of this name and descriptor is there.
     pub fn has_method(&self, name: &Name, desc: &Name) -> bool
         ensures { result ≡ is_member_among (record { name = name.now; desc = desc.now }) (map method_key self.now.methods) }
     {
-        is_method_of(&self.methods, name, desc)
+        self.methods.has(name, desc)
     }
 
     /// The class, with its members in the order in which they were added. It can be written.
@@ -245,35 +242,11 @@ impl ClassBuilder {
             name,
             super_name,
             Items::from_vec(interfaces),
-            Items::from_vec(fields),
-            Items::from_vec(methods),
-            Pool::from_entries(entries),
+            Items::from_vec(fields.into_vec()),
+            Items::from_vec(methods.into_vec()),
+            Pool::from_entries(entries.into_vec()),
         ))
     }
-}
-
-fn is_field_of(fields: &[FieldDecl], name: &Name, desc: &Name) -> bool
-    ensures { result ≡ is_member_among (record { name = name.now; desc = desc.now }) (map field_key fields.now) }
-{
-    any_field(fields, name, desc)
-}
-
-fn any_field(fields: &[FieldDecl], name: &Name, desc: &Name) -> bool
-    ensures { result ≡ list_any (λ (f : FieldDecl). is_text name.now f.name && is_text desc.now f.desc) fields.now }
-{
-    fields.iter().any(|f| name.as_str() == f.name.as_str() && desc.as_str() == f.desc.as_str())
-}
-
-fn is_method_of(methods: &[MethodDecl], name: &Name, desc: &Name) -> bool
-    ensures { result ≡ is_member_among (record { name = name.now; desc = desc.now }) (map method_key methods.now) }
-{
-    any_method(methods, name, desc)
-}
-
-fn any_method(methods: &[MethodDecl], name: &Name, desc: &Name) -> bool
-    ensures { result ≡ list_any (λ (m : MethodDecl). is_text name.now m.name && is_text desc.now m.desc) methods.now }
-{
-    methods.iter().any(|m| name.as_str() == m.name.as_str() && desc.as_str() == m.desc.as_str())
 }
 
 fn copied(name: Option<&Name>) -> Result<Option<Name>, WriteFault>
@@ -286,36 +259,62 @@ fn copied(name: Option<&Name>) -> Result<Option<Name>, WriteFault>
     }
 }
 
-fn appended(first: Vec<Entry>, added: Vec<Entry>) -> Result<Vec<Entry>, WriteFault>
-    ensures items { IfOk result (λ all. all.items ≡ first.items ++ added.items) }
+fn appended(first: Entries, added: Vec<Entry>) -> Result<Entries, WriteFault>
+    requires { length (first ++ added.items) < 65536 }
+    ensures items { IfOk result (λ all. all ≡ first ++ added.items) }
     ensures memory { IsOkUnless result WriteFault.NoMemory }
 {
     let mut all = first;
-    let mut rest = added;
-    all.append(&mut rest)?;
+    all.append(added)?;
     Ok(all)
 }
 
 /// Puts entries behind a pool, and a row behind its table. Without memory both stay as they are.
 fn put<T: Drop>(
-    entries: &mut Vec<Entry>,
+    entries: &mut Entries,
     added: Vec<Entry>,
     rows: &mut Vec<T>,
     row: T,
 ) -> Result<(), WriteFault>
-    ensures entries { OnOk result (entries.new.items ≡ entries.old.items ++ added.items) }
+    requires { length (entries.old ++ added.items) < 65536 }
+    ensures entries { OnOk result (entries.new ≡ entries.old ++ added.items) }
     ensures rows { OnOk result (rows.new.items ≡ rows.old.items ++ row ∷ []) }
-    ensures same_entries { OnErr result (entries.new.items ≡ entries.old.items) }
+    ensures same_entries { OnErr result (entries.new ≡ entries.old) }
     ensures same_rows { OnErr result (rows.new.items ≡ rows.old.items) }
     ensures memory { IsOkUnless result WriteFault.NoMemory }
 {
-    let mut rest = added;
     rows.push(row)?;
-    match entries.append(&mut rest) {
+    match entries.append(added) {
         Ok(()) => Ok(()),
-        Err(_) => {
+        Err(fault) => {
             rows.pop();
-            Err(WriteFault::NoMemory)
+            Err(fault)
+        }
+    }
+}
+
+/// Puts entries behind a pool, and a member behind its table. Without memory both stay as they are.
+fn put_member<T: Member + Drop>(
+    entries: &mut Entries,
+    added: Vec<Entry>,
+    members: &mut MemberTable<T>,
+    member: T,
+) -> Result<(), WriteFault>
+    requires room { length (entries.old ++ added.items) < 65536 }
+    requires fresh { is_member_among (T.key member) (map T.key members.old) ≡ false }
+    ensures entries { OnOk result (entries.new ≡ entries.old ++ added.items) }
+    ensures members { OnOk result (members.new ≡ members.old ++ member ∷ []) }
+    ensures same_entries { OnErr result (entries.new ≡ entries.old) }
+    ensures same_members { OnErr result (members.new ≡ members.old) }
+    ensures memory { IsOkUnless result WriteFault.NoMemory }
+{
+    let known = members.len();
+    members.push(member)?;
+    match entries.append(added) {
+        Ok(()) => Ok(()),
+        Err(fault) => {
+            members.truncate(known);
+            Err(fault)
         }
     }
 }

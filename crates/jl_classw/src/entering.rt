@@ -11,6 +11,7 @@ ghost use Rattle.jl_classw.specs.Built.{IsFit, IsSound};
 ghost use Rattle.jl_classw.specs.Building as building;
 ghost use Rattle.jl_classw.specs.Building.{spaced, at_end, entered, text_entered, class_entered, string_entered, name_and_type_entered, member_entered, constant_entered, new_entered};
 
+use crate::entries::Entries;
 use crate::entry::{Constant, MemberKind, NewEntry};
 use crate::fault::{WriteFault, too_many};
 use jl_names::{Units, plain_text, utf16_of};
@@ -24,7 +25,7 @@ const MOST_ENTRIES: usize = 65535;
 /// Enters an entry, and answers its index. One that is there is not entered again.
 #[tactic(auto, unfolding(crate::specs::Building::entered))]
 pub fn enter(
-    pool: &[Entry],
+    pool: &Entries,
     added: Vec<Entry>,
     entry: Entry,
 ) -> Result<(Vec<Entry>, u16), WriteFault>
@@ -38,13 +39,14 @@ pub fn enter(
     }
 }
 
-/// The index of an entry.
-fn place_of(pool: &[Entry], added: &[Entry], entry: &Entry) -> Option<u16>
+/// The index of an entry: in the pool, or else behind it among the few that were added. A call adds at most
+/// six, so that comparing them one by one is right.
+fn place_of(pool: &Entries, added: &[Entry], entry: &Entry) -> Option<u16>
     requires { length (pool.now ++ added.now) < 65536 }
     ensures { result ≡ position (building.is_same entry.now) (pool.now ++ added.now) }
 {
-    match first_same(pool, entry) {
-        Some(index) => Some(index as u16),
+    match pool.find(entry) {
+        Some(index) => Some(index),
         None => match first_same(added, entry) {
             Some(index) => Some((pool.len() + index) as u16),
             None => None,
@@ -60,7 +62,7 @@ fn first_same(entries: &[Entry], entry: &Entry) -> Option<usize>
 }
 
 /// Puts an entry at the end.
-fn add(pool: &[Entry], added: Vec<Entry>, entry: Entry) -> Result<(Vec<Entry>, u16), WriteFault>
+fn add(pool: &Entries, added: Vec<Entry>, entry: Entry) -> Result<(Vec<Entry>, u16), WriteFault>
     requires { length (pool.now ++ added.items) < 65536 }
     ensures exact { Gives told (λ x. (pool.now ++ x.0.items, x.1)) result (at_end (pool.now ++ added.items) entry) }
     ensures few { IfOk result (λ x. length (pool.now ++ x.0.items) < 65536) }
@@ -116,7 +118,7 @@ fn is_same(a: &Entry, b: &Entry) -> bool
 
 /// Enters a text.
 pub fn enter_text(
-    pool: &[Entry],
+    pool: &Entries,
     added: Vec<Entry>,
     text: &Name,
 ) -> Result<(Vec<Entry>, u16), WriteFault>
@@ -142,7 +144,7 @@ fn text_entry(alloc: Global, text: &Name) -> Result<Entry, WriteFault>
 /// Enters a class, behind its name.
 #[tactic(auto, unfolding(crate::specs::Building::class_entered))]
 pub fn enter_class(
-    pool: &[Entry],
+    pool: &Entries,
     added: Vec<Entry>,
     name: &Name,
 ) -> Result<(Vec<Entry>, u16), WriteFault>
@@ -158,7 +160,7 @@ pub fn enter_class(
 /// Enters a string, behind its text.
 #[tactic(auto, unfolding(crate::specs::Building::string_entered))]
 fn enter_string(
-    pool: &[Entry],
+    pool: &Entries,
     added: Vec<Entry>,
     units: Units,
 ) -> Result<(Vec<Entry>, u16), WriteFault>
@@ -174,7 +176,7 @@ fn enter_string(
 /// Enters a name and a descriptor, behind their texts.
 #[tactic(auto, unfolding(crate::specs::Building::name_and_type_entered))]
 fn enter_name_and_type(
-    pool: &[Entry],
+    pool: &Entries,
     added: Vec<Entry>,
     name: &Name,
     desc: &Name,
@@ -192,7 +194,7 @@ fn enter_name_and_type(
 /// Enters a member, behind its class, and its name and descriptor.
 #[tactic(auto, unfolding(crate::specs::Building::member_entered))]
 fn enter_member(
-    pool: &[Entry],
+    pool: &Entries,
     added: Vec<Entry>,
     kind: MemberKind,
     class: &Name,
@@ -231,7 +233,7 @@ fn member_entry(kind: MemberKind, class: u16, name: u16) -> Entry
 
 /// Enters a constant.
 pub fn enter_constant(
-    pool: &[Entry],
+    pool: &Entries,
     added: Vec<Entry>,
     constant: Constant,
 ) -> Result<(Vec<Entry>, u16), WriteFault>
@@ -249,7 +251,7 @@ pub fn enter_constant(
 
 /// Enters an entry, behind those that it needs.
 pub fn enter_new(
-    pool: &[Entry],
+    pool: &Entries,
     added: Vec<Entry>,
     entry: NewEntry,
 ) -> Result<(Vec<Entry>, u16), WriteFault>

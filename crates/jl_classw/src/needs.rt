@@ -11,6 +11,7 @@ ghost use Rattle.jl_classw.specs.Building as building;
 ghost use Rattle.jl_classw.specs.Building.{super_entered, some_constant_entered, optional_entered, attribute_entered, frames_entered, some_code_entered, code_entered};
 
 use crate::entering::{enter_class, enter_constant, enter_text};
+use crate::entries::Entries;
 use crate::entry::Constant;
 use crate::fault::WriteFault;
 use jl_class::CodeBytes;
@@ -19,7 +20,7 @@ use jl_prim::{Handler, Items, Name};
 
 /// Enters a superclass where there is one.
 pub fn enter_super(
-    pool: &[Entry],
+    pool: &Entries,
     added: Vec<Entry>,
     name: Option<&Name>,
 ) -> Result<(Vec<Entry>, u16), WriteFault>
@@ -36,7 +37,7 @@ pub fn enter_super(
 
 /// Enters the constant of a field, behind the name of its attribute (JVMS 4.7.2), and answers its index.
 pub fn enter_optional(
-    pool: &[Entry],
+    pool: &Entries,
     added: Vec<Entry>,
     constant: Option<Constant>,
 ) -> Result<(Vec<Entry>, Option<u16>), WriteFault>
@@ -53,7 +54,7 @@ pub fn enter_optional(
 
 #[tactic(auto, unfolding(crate::specs::Building::some_constant_entered))]
 fn enter_some(
-    pool: &[Entry],
+    pool: &Entries,
     added: Vec<Entry>,
     constant: Constant,
 ) -> Result<(Vec<Entry>, Option<u16>), WriteFault>
@@ -70,7 +71,7 @@ fn enter_some(
 
 /// Enters a text whose index is not asked for.
 #[tactic(auto, unfolding(crate::specs::Building::attribute_entered))]
-pub fn enter_name(pool: &[Entry], added: Vec<Entry>, name: &Name) -> Result<Vec<Entry>, WriteFault>
+pub fn enter_name(pool: &Entries, added: Vec<Entry>, name: &Name) -> Result<Vec<Entry>, WriteFault>
     requires { length (pool.now ++ added.items) < 65536 }
     ensures exact { Gives told (λ after. pool.now ++ after.items) result (attribute_entered (pool.now ++ added.items) name.now) }
     ensures few { IfOk result (λ after. length (pool.now ++ after.items) < 65536) }
@@ -95,7 +96,7 @@ pub fn has_many_handlers(code: &Option<CodeBytes>) -> bool
 
 /// Enters the names of the attributes that a method has (JVMS 4.7.3, 4.7.4).
 pub fn enter_code(
-    pool: &[Entry],
+    pool: &Entries,
     added: Vec<Entry>,
     code: &Option<CodeBytes>,
 ) -> Result<Vec<Entry>, WriteFault>
@@ -112,7 +113,7 @@ pub fn enter_code(
 
 #[tactic(auto, unfolding(crate::specs::Building::some_code_entered))]
 fn enter_some_code(
-    pool: &[Entry],
+    pool: &Entries,
     added: Vec<Entry>,
     code: &CodeBytes,
 ) -> Result<Vec<Entry>, WriteFault>
@@ -160,7 +161,7 @@ fn read(n: u16)
 }
 
 fn enter_frames(
-    pool: &[Entry],
+    pool: &Entries,
     added: Vec<Entry>,
     frames: &Option<Items<u8>>,
 ) -> Result<Vec<Entry>, WriteFault>

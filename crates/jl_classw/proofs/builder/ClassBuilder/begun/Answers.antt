@@ -1,13 +1,12 @@
-use Rattle.std.proofs.Common.{◌≡◌, ◌∙◌, [], ◌∷◌, ◌++◌, ap, arith}
-use Rattle.jl_pool.specs.declared.entry.Entry.TheVariants as entries
+use Rattle.std.proofs.Common.{refl, arith}
 use Rattle.jl_classw.proofs.BuiltLaws.{class_kept}
 use Rattle.jl_classw.proofs.builder.ClassBuilder.begun.Goals as goal
 
 pub invariant_of-result : goal.invariant_of-result
 invariant_of-result c =
-    let begins : c.push.new.self.items ≡ entries.Unused ∷ [] = c.in_ok-push.ensures.items ∙ ap (λ l. l ++ entries.Unused ∷ []) c.new-first.ensures.items in
-    class_kept c.push.new.self.items c.deref.result.now c.deref-2.result.now c.new.result.items c.in_ok-added.added.items c.in_ok-added-2.added.items c.in_ok-appended.field-0.items
-    c.args.major c.args.flags c.in_ok-copy.field-0 c.args.this.now c.in_ok-copied.field-0 _ c.new-2.result.items c.new-3.result.items c.new-4.result.items c.in_ok-added.field-0-1 _
+    let first = c.in_ok-first.first in
+    class_kept first first first c.new.result.items c.in_ok-added.added.items c.in_ok-added-2.added.items c.in_ok-appended.field-0
+    c.args.major c.args.flags c.in_ok-copy.field-0 c.args.this.now c.in_ok-copied.field-0 _ c.new-2.result.items c.new-3.result c.new-4.result c.in_ok-added.field-0-1 _
     c.requires.version (omega (arith, c.ranges.flags.fits)) c.requires.flags c.requires.name c.in_ok-added.ensures.utf8 c.requires.short c.requires.superclass c.in_ok-added-2.ensures.utf8 c.requires.extends
-    begins c.deref.ensures.value c.deref-2.ensures.value c.new.ensures.items c.in_ok-added.ensures.exact c.in_ok-added-2.ensures.exact
-    c.in_ok-copy.ensures c.in_ok-copied.ensures.same c.new-2.ensures.items c.new-3.ensures.items c.new-4.ensures.items c.in_ok-appended.ensures.items
+    c.in_ok-first.ensures.first refl refl c.new.ensures.items c.in_ok-added.ensures.exact c.in_ok-added-2.ensures.exact
+    c.in_ok-copy.ensures c.in_ok-copied.ensures.same c.new-2.ensures.items c.new-3.ensures c.new-4.ensures c.in_ok-appended.ensures.items

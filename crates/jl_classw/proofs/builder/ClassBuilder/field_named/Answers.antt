@@ -1,4 +1,4 @@
-use Rattle.std.proofs.Common.{◌≡◌, ◌<◌, true, false, map, length, sym, subst, arith}
+use Rattle.std.proofs.Common.{refl, ◌≡◌, ◌<◌, true, false, map, length, sym, subst, arith}
 use Rattle.jl_class.specs.Classes.{Class}
 use Rattle.jl_class.specs.Meaning.{are_field_flags, is_interface, is_member_among, field_key}
 use Rattle.jl_classw.proofs.BuiltLaws.{field_kept}
@@ -7,13 +7,13 @@ use Rattle.jl_classw.proofs.builder.ClassBuilder.field_named.Goals as goal
 pub invariant_of-self-2 : goal.invariant_of-self-2
 invariant_of-self-2 c =
     let b = c.self.inside in
-    let room : length b.fields.items < 65535 = grind arith in
+    let room : length b.fields < 65535 = grind arith in
     let Flags : Class → Type 0 = λ k. are_field_flags (is_interface k.flags) c.args.flags ≡ true in
     let Fresh : Class → Type 0 = λ k. is_member_among (record { name = c.args.name.now; desc = c.args.desc.now }) (map field_key k.fields) ≡ false in
-    field_kept (record { major = b.major; minor = 0; flags = b.flags; name = b.name; super_name = b.super_name; interfaces = b.interfaces.items; fields = b.fields.items; methods = b.methods.items; pool = b.entries.items })
-    c.deref.result.now c.deref-2.result.now c.deref-3.result.now c.new.result.items c.in_ok-added.added.items c.in_ok-added-2.added.items c.in_ok-added-3.added.items c.put.new.entries.items
-    c.args.flags c.in_ok-copy.field-0 c.in_ok-copy-2.field-0 c.args.name.now c.args.desc.now c.args.constant c.in_ok-added-3.constant c.put.new.rows.items
+    field_kept (record { major = b.major; minor = 0; flags = b.flags; name = b.name; super_name = b.super_name; interfaces = b.interfaces.items; fields = b.fields; methods = b.methods; pool = b.entries })
+    b.entries b.entries b.entries c.new.result.items c.in_ok-added.added.items c.in_ok-added-2.added.items c.in_ok-added-3.added.items c.put_member.new.entries
+    c.args.flags c.in_ok-copy.field-0 c.in_ok-copy-2.field-0 c.args.name.now c.args.desc.now c.args.constant c.in_ok-added-3.constant c.put_member.new.members
     c.self.invariant.1 (omega (arith, c.ranges.flags.fits)) (subst Flags (sym c.self.view_is) c.requires.flags) c.requires.name c.requires.desc (subst Fresh (sym c.self.view_is) c.requires.fresh)
     c.in_ok-added.ensures.utf8 c.in_ok-added-2.ensures.utf8 c.requires.short c.requires.constant c.in_ok-added-3.ensures.fit room
-    c.deref.ensures.value c.deref-2.ensures.value c.deref-3.ensures.value c.new.ensures.items c.in_ok-added.ensures.exact c.in_ok-added-2.ensures.exact c.in_ok-added-3.ensures.exact
-    c.in_ok-copy.ensures c.in_ok-copy-2.ensures c.in_ok-put.ensures.rows c.in_ok-put.ensures.entries
+    refl refl refl c.new.ensures.items c.in_ok-added.ensures.exact c.in_ok-added-2.ensures.exact c.in_ok-added-3.ensures.exact
+    c.in_ok-copy.ensures c.in_ok-copy-2.ensures c.in_ok-put_member.ensures.members c.in_ok-put_member.ensures.entries

@@ -1,7 +1,0 @@
-use Rattle.std.proofs.Common.{◌∙◌}
-use Rattle.jl_class.specs.Meaning.{field_key, is_same_member}
-use Rattle.jl_classw.proofs.DistinctLaws.{any_mapped}
-use Rattle.jl_classw.proofs.builder.is_field_of.Goals as goal
-
-pub returns : goal.returns
-returns c = c.any_field.ensures ∙ any_mapped (is_same_member (record { name = c.args.name.now; desc = c.args.desc.now })) field_key c.args.fields.now
