@@ -1,10 +1,10 @@
 -- What a listing of a folder tells of the files in it.
-use Rattle.std.proofs.Common.{◌≡◌, ℕ, suc, ◌+◌, List, [], ◌∷◌, ◌++◌, length, get_or, take, drop, map, filter, Option, None, Some, IfSome, Bool, true, false, cond, not, ◌||◌, ◌&&◌, ◌==◌, nat_eq, Contains, ⊎_elim, refl, sym, ◌∙◌, ap, subst, true≢false, Ordering, Less, Equal, Greater, arith, is_some}
+use Rattle.std.proofs.Common.{◌≡◌, ℕ, suc, ◌+◌, List, [], ◌∷◌, ◌++◌, length, get_or, take, drop, map, filter, Option, None, Some, IfSome, Bool, true, false, cond, not, ◌||◌, ◌==◌, nat_eq, Contains, ⊎_elim, refl, sym, ◌∙◌, ap, subst, true≢false, Ordering, Less, Equal, Greater, arith, is_some}
 use Rattle.std.specs.List.{list_any, before_first, position_or_len, IsDistinct, starts_with}
 use Rattle.std.specs.List.Sorted.{IsSortedBy}
 use Rattle.std.specs.Ordering.{is_lt, is_eq, ordering_reverse}
-use Rattle.std.specs.Cmp.Lexicographic.{pointwise, nat_list_cmp_total, nat_list_eq_equiv, texts_ties}
-use Rattle.std.proofs.lemmas.Bool.{cases_Bool, not-true}
+use Rattle.std.specs.Cmp.Lexicographic.{nat_list_cmp_total, nat_list_eq_equiv, texts_ties}
+use Rattle.std.proofs.lemmas.Bool.{cases_Bool, not-true, eqb-true, and_parts, and_from}
 use Rattle.std.proofs.lemmas.List.Elements.{All-contains, All-from_recursion}
 use Rattle.std.proofs.lemmas.List.Sorted.{Contains-permutation, IsPermutation-sym, IsPermutation-map, ranks_by, sorted_far}
 use Rattle.std.proofs.lemmas.Map.Keys.{IsDistinct-IsPermutation}
@@ -23,13 +23,6 @@ use Rattle.jl_finder.proofs.Members.{name_is, is_name, mapped_from, mapped_in, m
 pub some_told : {X : Type 0} (o : Option X) (P : X → Type 0) (x : X) → o ≡ Some x → IfSome o P → P x
 some_told None P x e h = absurd cc
 some_told (Some y) P x e h = let q : y ≡ x = cc in subst P q h
-
-pub both_true : (a b : Bool) → (a && b) ≡ true → (a ≡ true) × (b ≡ true)
-both_true true b h = (refl, h)
-both_true false b h = absurd (true≢false (sym h))
-
-pub true_both : (a b : Bool) → a ≡ true → b ≡ true → (a && b) ≡ true
-true_both a b h k = ap (λ t. t && b) h ∙ k
 
 -- ---- parts of paths
 
@@ -71,9 +64,6 @@ folder_part name rest h = λ i. record { name = front name h i; is_dir = slash n
             let n : 1 + position_or_len (λ c. c == 47) (xs ++ 47 ∷ rest) ≡ suc (position_or_len (λ c. c == 47) (xs ++ 47 ∷ rest)) = omega arith in
             ap (λ m. take m (x ∷ (xs ++ 47 ∷ rest))) n ∙ ap (λ t. x ∷ t) (more e)
 
-pub slash_is : (x : ℕ) → is_slash x ≡ true → x ≡ 47
-slash_is x h = grind arith
-
 -- a text with a slash is what stands before the first one, and the rest
 pub split_first : (r : List ℕ) → list_any is_slash r ≡ true → (name : List ℕ) × (tail : List ℕ) × (r ≡ name ++ 47 ∷ tail) × (list_any is_slash name ≡ false)
 split_first [] h = absurd (true≢false (sym h))
@@ -81,7 +71,7 @@ split_first (x ∷ xs) h = by (is_slash x) refl (split_first xs) h
   where
     by : (b : Bool) → is_slash x ≡ b → (list_any is_slash xs ≡ true → (name : List ℕ) × (tail : List ℕ) × (xs ≡ name ++ 47 ∷ tail) × (list_any is_slash name ≡ false))
         → (b || list_any is_slash xs) ≡ true → (name : List ℕ) × (tail : List ℕ) × (x ∷ xs ≡ name ++ 47 ∷ tail) × (list_any is_slash name ≡ false)
-    by true e later k = ([], xs, ap (λ t. t ∷ xs) (slash_is x e), refl)
+    by true e later k = ([], xs, ap (λ t. t ∷ xs) (eqb-true x 47 e), refl)
     by false e later k = let r = later k in (x ∷ r.0, r.1, ap (λ t. x ∷ t) r.2, ap (λ b. b || list_any is_slash r.0) e ∙ r.3)
 
 -- ---- entries of paths
@@ -140,19 +130,16 @@ lt a b = is_lt (name_cmp a.name b.name)
 abbrev entry_cmp : Entry → Entry → Ordering
 entry_cmp a b = name_cmp a.name b.name
 
-abbrev same_name : List ℕ → List ℕ → Bool
-same_name = pointwise nat_eq
-
-distinct_names : (ns : List (List ℕ)) → AreDistinct ns → IsDistinct same_name ns
+distinct_names : (ns : List (List ℕ)) → AreDistinct ns → IsDistinct is_text ns
 unfolding IsDistinct
 distinct_names [] h = tt
-distinct_names (n ∷ ns) h = (each_from_members _ ns (λ m c. by m c (same_name n m) refl), distinct_names ns h.1)
+distinct_names (n ∷ ns) h = (each_from_members _ ns (λ m c. by m c (is_text n m) refl), distinct_names ns h.1)
   where
-    by : (m : List ℕ) → Contains ns m → (b : Bool) → same_name n m ≡ b → same_name n m ≡ false
+    by : (m : List ℕ) → Contains ns m → (b : Bool) → is_text n m ≡ b → is_text n m ≡ false
     by m c true e = absurd (h.0 (subst (Contains ns) (sym (name_is n m e)) c))
     by m c false e = e
 
-rise_from : (es : List Entry) → IsSortedBy lt es → IsDistinct same_name (map (λ (e : Entry). e.name) es) → RisesBy entry_cmp es
+rise_from : (es : List Entry) → IsSortedBy lt es → IsDistinct is_text (map (λ (e : Entry). e.name) es) → RisesBy entry_cmp es
 unfolding IsDistinct
 rise_from [] s d = tt
 rise_from (n ∷ ns) s d = (each_from_members _ ns (λ m c. less m c), rise_from ns (λ k x a b. later k x (s (suc k) x (omega arith) (omega (arith, b)))) d.1)
@@ -163,8 +150,8 @@ rise_from (n ∷ ns) s d = (each_from_members _ ns (λ m c. less m c), rise_from
     no_less : (m : Entry) → Contains ns m → lt m n ≡ false
     no_less m c = subst (λ y. lt y n ≡ false) c.2 (sorted_far _ (ranks_by nat_list_cmp_total (λ (y : Entry). y.name)) (n ∷ ns) s 0 (suc c.0) m (omega arith) (omega (arith, c.1)))
 
-    apart : (m : Entry) → Contains ns m → same_name n.name m.name ≡ false
-    apart m c = All-contains (λ y. same_name n.name y ≡ false) (map (λ (e : Entry). e.name) ns) m.name (All-from_recursion _ _ d.0) (map_in (λ (e : Entry). e.name) ns m c)
+    apart : (m : Entry) → Contains ns m → is_text n.name m.name ≡ false
+    apart m c = All-contains (λ y. is_text n.name y ≡ false) (map (λ (e : Entry). e.name) ns) m.name (All-from_recursion _ _ d.0) (map_in (λ (e : Entry). e.name) ns m c)
 
     less : (m : Entry) → Contains ns m → name_cmp n.name m.name ≡ Less
     less m c = by (name_cmp n.name m.name) refl
@@ -176,7 +163,7 @@ rise_from (n ∷ ns) s d = (each_from_members _ ns (λ m c. less m c), rise_from
 
 listed_entries : (files : List File) (dir : List ℕ) (entries sorted : List Entry) → IsListing files dir entries → AreSorted entries sorted → AreEntries files dir sorted
 listed_entries files dir entries sorted h s = record {
-  rise = rise_from sorted s.order (IsDistinct-IsPermutation same_name (λ a b. nat_list_eq_equiv.symm a b) (map (λ (e : Entry). e.name) entries) (map (λ (e : Entry). e.name) sorted) (IsPermutation-map _ entries sorted s.same) (distinct_names _ h.once));
+  rise = rise_from sorted s.order (IsDistinct-IsPermutation is_text (λ a b. nat_list_eq_equiv.symm a b) (map (λ (e : Entry). e.name) entries) (map (λ (e : Entry). e.name) sorted) (IsPermutation-map _ entries sorted s.same) (distinct_names _ h.once));
   all = λ f e c k. Contains-permutation entries sorted e s.same (h.all f e c k);
   only = λ e c. h.only e (Contains-permutation sorted entries e (IsPermutation-sym _ _ s.same) c);
 }
@@ -263,7 +250,7 @@ declares_is files place es h = same_bool (declares es) (is_module files place) t
     to : declares es ≡ true → is_module files place ≡ true
     to t =
         let m = any_from is_declaration es t in
-        let b = both_true _ _ m.2 in
+        let b = and_parts _ _ m.2 in
         let r = h.only m.0 m.1 in
         let p = file_entry place r.0.path m.0 r.2 (not-true _ b.0) in
         file_in files (declaration_in place) r.0 r.1 (p.0 ∙ ap (λ t. place ++ 47 ∷ t) (name_is m.0.name declaration_name b.1))
@@ -291,16 +278,16 @@ tops_are files place es h = same_rising name_cmp (apart_from_total name_cmp nat_
     to n c =
         let m = map_from _ (filter is_top_class es) n c in
         let t = filter_from is_top_class es m.0 m.1 in
-        let b = both_true _ _ t.1 in
+        let b = and_parts _ _ t.1 in
         let r = h.only m.0 t.0 in
         let p = file_entry place r.0.path m.0 r.2 (not-true _ b.0) in
         subst (Contains (top_classes files place)) m.2
-        (in_order_in _ m.0.name (filter_in _ (rests files place) m.0.name (rest_in files place m.0.name r.0 r.1 p.0) (true_both _ _ (ap not p.1) b.1)))
+        (in_order_in _ m.0.name (filter_in _ (rests files place) m.0.name (rest_in files place m.0.name r.0 r.1 p.0) (and_from _ _ (ap not p.1) b.1)))
 
     back : (n : List ℕ) → Contains (top_classes files place) n → Contains (tops es) n
     back n c =
         let t = filter_from _ (rests files place) n (in_order_from _ n c) in
-        let b = both_true _ _ t.1 in
+        let b = and_parts _ _ t.1 in
         let r = rest_from files place n t.0 in
         let e = entry_file place r.0.path n r.2 (not-true _ b.0) in
         map_in (λ (x : Entry). x.name) (filter is_top_class es) (record { name = n; is_dir = false }) (filter_in is_top_class es _ (h.all r.0 _ r.1 e) b.1)

@@ -1,23 +1,20 @@
 -- Steps that end with the first fault, and what a tree may tell.
-use Rattle.std.proofs.Common.{◌≡◌, ◌≤◌, ◌<◌, ◌⊎◌, ℕ, nat_lt, inl, inr, ⊎_elim, arith, Option, None, Some, Result, Ok, Err, Bool, true, false, refl, ◌∙◌, ap}
+use Rattle.std.proofs.Common.{◌≡◌, ◌≤◌, ℕ, inl, inr, ⊎_elim, arith, Option, None, Some, Result, Ok, Err, refl, ◌∙◌, ap}
 use Rattle.std.specs.Prelude.{MatchOption, ⊤, IfSome}
 use Rattle.jl_logic.specs.Answers.{Fails}
-use Rattle.std.proofs.lemmas.Bool.{ltb-true}
-use Rattle.jl_logic.specs.Counts.{Rose, last_count}
+use Rattle.std.proofs.lemmas.Bool.{cases_lt}
+use Rattle.jl_logic.specs.Counts.{Rose}
 use Rattle.jl_reading.specs.Reading.{◌>>=◌}
+use Rattle.jl_reading.proofs.Steps as steps
 
 pub fails_as : {A B F : Type 0} (t : Option F) (r : Result A F) (total : Result B F) → ((f : F) → r ≡ Err f → total ≡ Err f)
     → MatchOption t ⊤ (λ d. r ≡ Err d) → MatchOption t ⊤ (λ d. total ≡ Err d)
 fails_as None r total h k = tt
 fails_as (Some d) r total h k = h d k
 
-bind_err : {A B F : Type 0} (r : Result A F) (f : A → Result B F) (d : F) → r ≡ Err d → (r >>= f) ≡ Err d
-bind_err (Ok x) f d e = absurd cc
-bind_err (Err c) f d e = let q : c ≡ d = cc in ap (λ t. Err t) q
-
 -- a step that fails ends all
 pub step_fails : {A B E F : Type 0} (told : E → Option F) (e : E) (r : Result A F) (f : A → Result B F) → Fails told e r → Fails told e (r >>= f)
-step_fails told e r f h = fails_as (told e) r (r >>= f) (bind_err r f) h
+step_fails told e r f h = steps.fails_as (told e) r f (r >>= f) h refl
 
 -- the same of a later equation
 pub fails_so : {B E F : Type 0} (told : E → Option F) (e : E) (r total : Result B F) → total ≡ r → Fails told e r → Fails told e total
@@ -34,14 +31,7 @@ if_told (Some x) P h = h x refl
 
 -- a count that rose later rose
 pub rose_from : (a b c : ℕ) → a ≤ b → b ≤ c → Rose b c → Rose a c
-rose_from a b c le lf h = ⊎_elim (λ l. inl (omega (arith, le, l))) (λ e. by (nat_lt a c) refl e) h
-  where
-    by : (t : Bool) → nat_lt a c ≡ t → b ≡ last_count → (a < c) ⊎ (a ≡ last_count)
-    by true k e = inl (ltb-true a c k)
-    by false k e = inr (let m : c ≤ a = not_less a c k in omega (arith, le, lf, m, e))
-      where
-        not_less : (x y : ℕ) → nat_lt x y ≡ false → y ≤ x
-        not_less x y q = grind arith
+rose_from a b c le lf h = ⊎_elim (λ l. inl (omega (arith, le, l))) (λ e. ⊎_elim (λ l. inl l) (λ m. inr (omega (arith, le, lf, m, e))) (cases_lt a c)) h
 
 pub err_retyped : {A B F : Type 0} (e d : F) → ◌≡◌ {A = Result A F} (Err e) (Err d) → ◌≡◌ {A = Result B F} (Err e) (Err d)
 err_retyped e d h = let q : e ≡ d = cc in ap (λ t. Err t) q

@@ -1,20 +1,17 @@
 -- Paths, and names in order.
-use Rattle.std.specs.Prelude.{ℕ, ◌+◌, List, [], ◌∷◌, ◌++◌, length, drop, map, Option, None, Some, Bool, not, ◌&&◌, ◌||◌, ◌==◌, nat_eq, codes, if◌then◌else◌}
-use Rattle.std.specs.List.{starts_with, ends_with, filter_map, list_any}
+use Rattle.std.specs.Prelude.{ℕ, List, [], ◌∷◌, ◌++◌, map, Bool, not, ◌&&◌, ◌||◌, ◌==◌, nat_eq, codes, if◌then◌else◌}
+use Rattle.std.specs.List.{ends_with, filter_map, list_any}
 use Rattle.std.specs.declared.cmp.Ordering.{Ordering}
 use Rattle.std.specs.declared.cmp.Ordering.TheVariants.{Less, Equal, Greater}
 use Rattle.jl_logic.specs.Order.{name_cmp}
 use Rattle.jl_names.specs.Names.{is_slash}
 use Rattle.jl_prim.specs.Names.{names_a_module}
 use Rattle.jl_tree.specs.Files.{File}
+use Rattle.jl_tree.specs.Listing.{below}
 
 -- what is in a folder
 abbrev pub path_in : List ℕ → List ℕ → List ℕ
 path_in dir name = dir ++ 47 ∷ name
-
--- what of a path lies below a folder
-abbrev pub below : List ℕ → List ℕ → Option (List ℕ)
-below dir path = if starts_with nat_eq path (dir ++ 47 ∷ []) then Some (drop (length dir + 1) path) else None
 
 -- what lies below a folder, each file by the rest of its path
 abbrev pub rests : List File → List ℕ → List (List ℕ)
