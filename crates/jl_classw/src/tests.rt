@@ -63,14 +63,15 @@ fn with_field(
     Ok(b.field(flags, name.as_bytes(), desc.as_bytes(), constant)?)
 }
 
-fn with_method(
+/// What comes of adding a method.
+fn tried(
     alloc: Global,
     b: &mut ClassBuilder,
     flags: u16,
     name: &str,
     desc: &str,
     code: Option<CodeBytes>,
-) -> Result<(), Fail> {
+) -> Result<Result<(), WriteFault>, Fail> {
     let name = named(alloc, name)?;
     let desc = named(alloc, desc)?;
     if !are_method_flags(flags)
@@ -82,7 +83,18 @@ fn with_method(
     {
         return Err(Fail::new("method"));
     }
-    Ok(b.method(flags, name.as_bytes(), desc.as_bytes(), code)?)
+    Ok(b.method(flags, name.as_bytes(), desc.as_bytes(), code))
+}
+
+fn with_method(
+    alloc: Global,
+    b: &mut ClassBuilder,
+    flags: u16,
+    name: &str,
+    desc: &str,
+    code: Option<CodeBytes>,
+) -> Result<(), Fail> {
+    Ok(tried(alloc, b, flags, name, desc, code)??)
 }
 
 fn code(alloc: Global) -> Result<CodeBytes, Fail> {
@@ -230,5 +242,92 @@ fn many_interfaces(alloc: Global) -> Result<(bool, usize, usize), Fail> {
 #[test]
 fn a_table_is_full(rt: HostRuntime) -> Result<(), Fail> {
     assert_eq!(rt; many_interfaces(rt.alloc())?, (true, 65535, 7));
+    Ok(())
+}
+
+/// A class whose pool has an entry of each kind: 12 an Integer, 13 a Float, 14 a Long, 16 a Double, 18 a
+/// String, 19 and 20 names with types, 21 a field, 22 a method, 23 that of an interface, 24 a method handle,
+/// 25 a method type, 26 a computed constant and 27 a computed call site.
+fn every_kind<'a>() -> &'a [u8] {
+    b"\xca\xfe\xba\xbe\x00\x00\x005\x00\x1c\
+        \x01\x00\x03p/A\
+        \x07\x00\x01\
+        \x01\x00\x10java/lang/Object\
+        \x07\x00\x03\
+        \x01\x00\x01x\
+        \x01\x00\x01I\
+        \x01\x00\x01m\
+        \x01\x00\x03()V\
+        \x01\x00\x0dConstantValue\
+        \x01\x00\x04Code\
+        \x01\x00\x0dStackMapTable\
+        \x03\x00\x00\x00\x07\
+        \x04@\x00\x00\x00\
+        \x05\x00\x00\x00\x00\x00\x00\x00\x01\
+        \x06?\xf0\x00\x00\x00\x00\x00\x00\
+        \x08\x00\x05\
+        \x0c\x00\x05\x00\x06\
+        \x0c\x00\x07\x00\x08\
+        \x09\x00\x02\x00\x13\
+        \x0a\x00\x02\x00\x14\
+        \x0b\x00\x02\x00\x14\
+        \x0f\x06\x00\x16\
+        \x10\x00\x08\
+        \x11\x00\x00\x00\x13\
+        \x12\x00\x00\x00\x14\
+        \x00\x21\x00\x02\x00\x04\x00\x00\
+        \x00\x01\
+        \x00\x18\x00\x05\x00\x06\x00\x01\x00\x09\x00\x00\x00\x02\x00\x0c\
+        \x00\x01\
+        \x00\x09\x00\x07\x00\x08\x00\x01\x00\x0a\x00\x00\x00\x1d\
+        \x00\x01\x00\x02\x00\x00\x00\x01\xb1\
+        \x00\x01\x00\x00\x00\x01\x00\x00\x00\x00\
+        \x00\x01\x00\x0b\x00\x00\x00\x02\x00\x00\
+        \x00\x00"
+}
+
+#[test]
+fn every_kind_of_entry_is_written(rt: HostRuntime) -> Result<(), Fail> {
+    let class = read_class(rt.alloc(), every_kind())?;
+    let bytes = write_class(rt.alloc(), &class)?;
+    assert_eq!(rt; bytes.as_slice(), every_kind());
+    assert!(rt; is_read_so(rt.alloc(), &bytes, &class)?);
+    Ok(())
+}
+
+/// So many handlers that each catch everything.
+fn handlers(alloc: Global, count: usize) -> Result<Items<Handler>, Fail> {
+    let mut handlers = Items::new(alloc);
+    for _ in 0..count {
+        handlers.push(Handler {
+            start: 0,
+            end: 1,
+            target: 0,
+            catch_type: 0,
+        })?;
+    }
+    Ok(handlers)
+}
+
+/// What comes of a method with so many handlers: whether it is refused, and how many methods and entries
+/// there are then.
+fn many_handlers(alloc: Global, count: usize) -> Result<(bool, usize, usize), Fail> {
+    let mut b = begun(alloc)?;
+    let mut code = code(alloc)?;
+    code.handlers = handlers(alloc, count)?;
+    let is_refused =
+        matches!(tried(alloc, &mut b, 1, "m", "()V", Some(code))?, Err(WriteFault::TooMany(table)) if table.as_str() == "handlers");
+    let class = b.finish()?;
+    Ok((
+        is_refused,
+        class.methods().len(),
+        class.pool().entries().len(),
+    ))
+}
+
+#[test]
+fn handlers_are_counted_by_two_bytes(rt: HostRuntime) -> Result<(), Fail> {
+    assert_eq!(rt; many_handlers(rt.alloc(), 65535)?, (false, 1, 9));
+    assert_eq!(rt; many_handlers(rt.alloc(), 65536)?, (true, 0, 5));
     Ok(())
 }
