@@ -36,9 +36,15 @@ pub enum ClassFault {
 }
 
 impl Fault for ClassFault {
-    ghost use Rattle.jl_class.specs.declared.fault.ClassFault.TheVariants.{Short};
+    ghost use Rattle.std.specs.Prelude.{refl};
+    ghost use Rattle.jl_class.specs.declared.fault.ClassFault.TheVariants as variants;
+    ghost use Rattle.jl_class.specs.Faults as words;
 
-    ghost short = { Short };
+    ghost told = { words.told };
+
+    ghost short = { variants.Short };
+
+    ghost tells_short = { λ at. refl };
 
     fn short(at: usize) -> ClassFault {
         ClassFault::Short(at)

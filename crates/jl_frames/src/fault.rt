@@ -22,9 +22,15 @@ pub enum FrameFault {
 }
 
 impl Fault for FrameFault {
-    ghost use Rattle.jl_frames.specs.declared.fault.FrameFault.TheVariants.{Short};
+    ghost use Rattle.std.specs.Prelude.{refl};
+    ghost use Rattle.jl_frames.specs.declared.fault.FrameFault.TheVariants as variants;
+    ghost use Rattle.jl_frames.specs.Reading as words;
 
-    ghost short = { Short };
+    ghost told = { words.told };
+
+    ghost short = { variants.Short };
+
+    ghost tells_short = { λ at. refl };
 
     fn short(at: usize) -> FrameFault {
         FrameFault::Short(at)

@@ -9,3 +9,7 @@ Fails told e defined = MatchOption (told e) ⊤ (λ f. defined ≡ Err f)
 abbrev pub Gives : {X Y E F : Type 0} → (E → Option F) → (X → Y) → Result X E → Result Y F → Type 0
 Gives told view (Ok x) defined = defined ≡ Ok (view x)
 Gives told view (Err e) defined = Fails told e defined
+
+-- What a function of the program returned is what the definition gives, unless its error tells nothing.
+abbrev pub Tells : {X E F : Type 0} → (E → Option F) → Result X E → Result X F → Type 0
+Tells told result defined = Gives told (λ x. x) result defined

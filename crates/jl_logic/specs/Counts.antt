@@ -8,6 +8,6 @@ last_count = 18446744073709551615
 abbrev pub Rose : ℕ → ℕ → Type 0
 Rose old new = (old < new) ⊎ (old ≡ last_count)
 
--- one more
-abbrev pub counted : ℕ → ℕ
-counted n = min (n + 1) last_count
+-- a count that rises by one, up to its last value
+abbrev pub raised : ℕ → ℕ
+raised n = min (n + 1) last_count

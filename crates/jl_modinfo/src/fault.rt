@@ -93,9 +93,15 @@ impl From<PoolWriteFault> for InfoWriteFault {
 }
 
 impl Fault for InfoFault {
-    ghost use Rattle.jl_modinfo.specs.declared.fault.InfoFault.TheVariants.{Short};
+    ghost use Rattle.std.specs.Prelude.{refl};
+    ghost use Rattle.jl_modinfo.specs.declared.fault.InfoFault.TheVariants as variants;
+    ghost use Rattle.jl_modinfo.specs.Faults as words;
 
-    ghost short = { Short };
+    ghost told = { words.told };
+
+    ghost short = { variants.Short };
+
+    ghost tells_short = { λ at. refl };
 
     fn short(at: usize) -> InfoFault {
         InfoFault::Short(at)

@@ -20,9 +20,15 @@ pub enum PoolFault {
 }
 
 impl Fault for PoolFault {
-    ghost use Rattle.jl_pool.specs.declared.fault.PoolFault.TheVariants.{Short};
+    ghost use Rattle.std.specs.Prelude.{refl};
+    ghost use Rattle.jl_pool.specs.declared.fault.PoolFault.TheVariants as variants;
+    ghost use Rattle.jl_pool.specs.Reading as words;
 
-    ghost short = { Short };
+    ghost told = { words.told };
+
+    ghost short = { variants.Short };
+
+    ghost tells_short = { λ at. refl };
 
     fn short(at: usize) -> PoolFault {
         PoolFault::Short(at)

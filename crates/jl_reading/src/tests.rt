@@ -7,9 +7,14 @@ enum Trial {
 }
 
 impl Fault for Trial {
+    ghost use Rattle.std.specs.Prelude.{Some, refl};
     ghost use Rattle.jl_reading.specs.declared.tests.Trial.TheVariants.{Short};
 
+    ghost told = { λ e. Some e };
+
     ghost short = { Short };
+
+    ghost tells_short = { λ at. refl };
 
     fn short(at: usize) -> Trial {
         Trial::Short(at)

@@ -3,7 +3,7 @@ use Rattle.std.specs.Prelude.{◌≡◌, ℕ, ◌-◌, List, [], ◌∷◌, ◌+
 use Rattle.std.specs.List.{starts_with, list_any, list_all}
 use Rattle.std.specs.Global.{Vec}
 use Rattle.jl_logic.specs.Order.{is_text}
-use Rattle.jl_logic.specs.Counts.{counted}
+use Rattle.jl_logic.specs.Counts.{raised}
 use Rattle.jl_tree.specs.declared.entry.Entry.{Entry}
 use Rattle.jl_tree.specs.declared.tree.TreeFault.{TreeFault}
 use Rattle.jl_tree.specs.declared.tree.TreeFault.TheVariants.{Failed, TooLong, NoMemory}
@@ -45,7 +45,7 @@ pub record MemTreeState : Type 0 where
 
 -- the next call is one of those that fail
 abbrev pub is_failing : List ℕ → ℕ → Bool
-is_failing fails calls = list_any (λ n. n == counted calls) fails
+is_failing fails calls = list_any (λ n. n == raised calls) fails
 
 -- what an error of a tree in memory tells: all but want of memory
 abbrev pub known : TreeFault → Option TreeFault
@@ -68,7 +68,7 @@ MemLists s dir result = when (is_failing s.fails s.calls) result where
 -- a failure is one more fault
 abbrev pub faults_after : {X : Type 0} → Result X TreeFault → ℕ → ℕ
 faults_after (Ok x) n = n
-faults_after (Err Failed) n = counted n
+faults_after (Err Failed) n = raised n
 faults_after (Err (TooLong _)) n = n
 faults_after (Err NoMemory) n = n
 
@@ -76,7 +76,7 @@ faults_after (Err NoMemory) n = n
 pub record AfterCall {X : Type 0} (old new : MemTreeState) (result : Result X TreeFault) : Type 0 where
   pub same_files : new.files ≡ old.files
   pub same_fails : new.fails ≡ old.fails
-  pub one_more : new.calls ≡ counted old.calls
+  pub one_call : new.calls ≡ raised old.calls
   pub faults : new.faults ≡ faults_after result old.faults
 
 -- A sink in memory: the bytes that it took, how many it has room for in all, the numbers of the calls that
@@ -100,5 +100,5 @@ mem_write s piece = if is_refused s piece then Err SinkFailed else Ok (length pi
 abbrev pub after_write : MemSinkState → List ℕ → MemSinkState
 after_write s piece =
     if is_refused s piece
-    then record s { calls = counted s.calls; faults = counted s.faults }
-    else record s { calls = counted s.calls; bytes = s.bytes ++ piece }
+    then record s { calls = raised s.calls; faults = raised s.faults }
+    else record s { calls = raised s.calls; bytes = s.bytes ++ piece }

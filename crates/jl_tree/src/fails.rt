@@ -1,12 +1,12 @@
 //! Counts of calls and faults, and which calls fail.
 
 ghost use Rattle.std.specs.Prelude.{◌≡◌, ◌≤◌};
-ghost use Rattle.jl_logic.specs.Counts.{counted, Rose};
+ghost use Rattle.jl_logic.specs.Counts.{raised, Rose};
 ghost use Rattle.jl_tree.specs.Memory.{is_failing};
 
 /// One more. It stands still at the last value.
 pub fn one_more(count: u64) -> u64
-    ensures one_more { result ≡ counted count }
+    ensures one_more { result ≡ raised count }
     ensures rose { Rose count result }
     ensures kept { count ≤ result }
 {

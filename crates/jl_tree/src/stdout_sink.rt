@@ -1,7 +1,7 @@
 //! The standard output as a sink.
 
 ghost use Rattle.std.specs.Prelude.{◌≡◌, ◌≤◌, length, IfOk};
-ghost use Rattle.jl_logic.specs.Counts.{counted, Rose};
+ghost use Rattle.jl_logic.specs.Counts.{raised, Rose};
 
 use crate::fails::one_more;
 use crate::sink::{Sink, SinkFault};
@@ -25,7 +25,7 @@ impl<R> StdoutSink<R> {
     /// Counts one more fault.
     fn fail(&mut self)
         ensures same_runtime { self.new.rt ≡ self.old.rt }
-        ensures one_more { self.new.faults ≡ counted self.old.faults }
+        ensures one_more { self.new.faults ≡ raised self.old.faults }
         ensures rose { Rose self.old.faults self.new.faults }
         ensures kept { self.old.faults ≤ self.new.faults }
     {
