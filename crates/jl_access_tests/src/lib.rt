@@ -1,0 +1,5 @@
+//! Tests of the access checks.
+#![tactic(auto)]
+
+#[cfg(test)]
+mod access;

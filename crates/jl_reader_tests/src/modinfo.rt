@@ -1,0 +1,1 @@
+//! Tests of jl_modinfo.

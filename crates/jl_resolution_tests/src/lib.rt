@@ -1,0 +1,13 @@
+//! Tests of the command resolve and of what it stands on.
+#![tactic(auto)]
+
+#[cfg(test)]
+mod config;
+#[cfg(test)]
+mod finder;
+#[cfg(test)]
+mod words;
+#[cfg(test)]
+mod launch;
+#[cfg(test)]
+mod tree;
