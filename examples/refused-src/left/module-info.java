@@ -1,0 +1,4 @@
+/** One of two modules with a package words. */
+module left {
+    exports words;
+}

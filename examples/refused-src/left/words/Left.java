@@ -1,0 +1,4 @@
+package words;
+
+public class Left {
+}

@@ -1,0 +1,4 @@
+/** The other module with a package words. */
+module right {
+    exports words;
+}
