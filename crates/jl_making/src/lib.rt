@@ -2,5 +2,10 @@
 #![tactic(auto)]
 
 mod bytes;
+mod declarations;
 mod names;
 mod trees;
+
+pub use bytes::{bytes_in, bytes_of_lines, edited};
+pub use declarations::{declaration, file_of, module_file};
+pub use names::{names_in, words_in};
