@@ -1,3 +1,4 @@
+pub mod Appended
 pub mod Each
 pub mod Standing
 pub mod Stands
