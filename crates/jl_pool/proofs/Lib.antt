@@ -4,3 +4,4 @@ mod Rows
 pub mod Whole
 pub mod BuilderLaws
 pub mod PoolLaws
+pub mod Longer

@@ -3,3 +3,4 @@ pub mod Content
 pub mod Pool
 pub mod Reading
 pub mod Spelling
+pub mod Laws
