@@ -1,11 +1,13 @@
 -- Constants that are entered one after the other: which are there, where, and that they make a pool.
-use Rattle.std.proofs.Common.{◌≡◌, ℕ, ◌+◌, ◌<◌, Bool, true, false, ◌||◌, List, [], ◌∷◌, ◌++◌, length, refl, sym, ap, subst, ◌∙◌, arith, inl, inr}
-use Rattle.std.specs.Prelude.{IsUtf8, if◌then◌else◌}
+use Rattle.std.proofs.Common.{◌≡◌, ℕ, zero, suc, ◌+◌, ◌<◌, Bool, true≢false, true, false, ◌||◌, List, [], ◌∷◌, ◌++◌, length, refl, sym, ap, subst, ◌∙◌, arith, inl, inr}
+use Rattle.std.specs.Prelude.{IsUtf8, Contains, if◌then◌else◌}
 use Rattle.std.specs.List.{list_any, position_or_len, AllByRecursion}
 use Rattle.std.specs.Cmp.Lexicographic.{bytes_decides}
 use Rattle.std.proofs.lemmas.Bool.{cases_Bool}
 use Rattle.std.proofs.lemmas.List.{length_push}
 use Rattle.std.proofs.lemmas.List.Folds.{list_any-append}
+use Rattle.jl_logic.specs.Lists.{AreDistinct}
+use Rattle.jl_logic.proofs.Apart.{distinct_push}
 use Rattle.jl_logic.proofs.Rising.{each_in_append}
 use Rattle.jl_pool.specs.declared.constant.Constant.{Constant}
 use Rattle.jl_pool.specs.declared.constant.Constant.TheVariants as constants
@@ -141,6 +143,16 @@ each_weaker : {P Q : Constant → Type 0} → ((c : Constant) → P c → Q c) �
 each_weaker h [] a = tt
 each_weaker h (c ∷ cs) a = (h c a.0, each_weaker h cs a.1)
 
+neither : (a b : Bool) → (a || b) ≡ false → (a ≡ false) × (b ≡ false)
+neither true b e = absurd cc
+neither false b e = (refl, e)
+
+-- what is not found is not there
+absent : (cs : List Constant) (x : Constant) → has cs x ≡ false → Contains cs x → ⊥
+absent [] x f (k, l, e) = omega (arith, l)
+absent (c ∷ cs) x f (zero, l, e) = true≢false (sym (subst (λ (y : Constant). is_same x y ≡ true) (sym e) (same_self x)) ∙ (neither (is_same x c) (has cs x) f).0)
+absent (c ∷ cs) x f (suc k, l, e) = absent cs x (neither (is_same x c) (has cs x) f).1 (k, omega (arith, l), e)
+
 kept_in_with : (cs : List Constant) (x c : Constant) → IsKept cs c → IsKept (with_constant cs x) c
 kept_in_with cs x c k = record { utf8 = k.utf8; short = k.short; text = has_kept cs x (constants.Text (text_in c)) k.text }
 
@@ -151,6 +163,10 @@ kept_with cs x kept utf8 short text room =
     let new : IsKept (with_constant cs x) x = record { utf8 = utf8; short = short; text = text } in
     record {
       few = room;
+      distinct = elim (cases_Bool (has cs x)) [
+        | inl t ↦ subst (λ (l : List Constant). AreDistinct l) (sym (with_there cs x t)) kept.distinct
+        | inr f ↦ subst (λ (l : List Constant). AreDistinct l) (sym (with_absent cs x f)) (distinct_push cs x kept.distinct (absent cs x f))
+      ];
       each = elim (cases_Bool (has cs x)) [
         | inl t ↦ subst (λ (l : List Constant). AllByRecursion (IsKept (with_constant cs x)) l) (sym (with_there cs x t)) old
         | inr f ↦ subst (λ (l : List Constant). AllByRecursion (IsKept (with_constant cs x)) l) (sym (with_absent cs x f)) (each_in_append (IsKept (with_constant cs x)) cs (x ∷ []) old (new, tt))

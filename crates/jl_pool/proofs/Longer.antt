@@ -1,11 +1,11 @@
 -- Reading a pool where more bytes follow.
-use Rattle.std.proofs.Common.{◌≡◌, ℕ, ◌+◌, ◌-◌, ◌<◌, ◌≤◌, Bool, cond, ltb, eqb, ◌==◌, not, List, [], ◌∷◌, length, take, drop, Option, None, Some, Result, Ok, Err, refl, sym, ap, ◌∙◌, arith}
-use Rattle.std.specs.Prelude.{position, MatchOption, ⊤}
+use Rattle.std.proofs.Common.{◌≡◌, ℕ, ◌+◌, ◌-◌, ◌<◌, Bool, cond, ltb, eqb, not, List, [], ◌∷◌, length, take, drop, Option, None, Some, Result, Ok, Err, refl, sym, ap, arith}
+use Rattle.std.specs.Prelude.{position}
 use Rattle.std.proofs.lemmas.List.{drop-take}
 use Rattle.jl_reading.specs.Reading.{◌>>=◌, number_at, each_at}
 use Rattle.jl_reading.specs.Appended.{Appends, IsPast}
 use Rattle.jl_reading.proofs.Appended.{number_appends, bind_appends, given_appends, fault_appends, cond_appends, each_appends, part_appends, appends_as, ReadsPart, not_both, err_is, failed}
-use Rattle.jl_reading.proofs.Steps.{bind_ok, ok_is}
+use Rattle.jl_reading.proofs.Steps.{ok_is}
 use Rattle.jl_names.specs.declared.fault.TextFault.{TextFault}
 use Rattle.jl_names.specs.Text.{units_read}
 use Rattle.jl_pool.specs.declared.entry.Entry.{Entry}
@@ -150,6 +150,6 @@ pool_longer at =
     (λ count bytes. each_at (entry_at count.0 bytes) (entries.Unused ∷ []) (count.0 - 1) count.1 >>= λ read. refers_or (position (λ e. not (refers_rightly read.0 e)) read.0) read)
     (number 2 at)
     (λ count.
-      then count.1 (λ bytes. each_at (entry_at count.0 bytes) (entries.Unused ∷ []) (count.0 - 1) count.1) (λ read bytes. refers_or (position (λ e. not (refers_rightly read.0 e)) read.0) read)
-      (each_appends cut_at ⊥ (λ bytes. entry_at count.0 bytes) (λ done p. entry count.0 done p) (count.0 - 1) (entries.Unused ∷ []) count.1)
-      (λ read. refers (position (λ e. not (refers_rightly read.0 e)) read.0) read))
+    then count.1 (λ bytes. each_at (entry_at count.0 bytes) (entries.Unused ∷ []) (count.0 - 1) count.1) (λ read bytes. refers_or (position (λ e. not (refers_rightly read.0 e)) read.0) read)
+    (each_appends cut_at ⊥ (λ bytes. entry_at count.0 bytes) (λ done p. entry count.0 done p) (count.0 - 1) (entries.Unused ∷ []) count.1)
+    (λ read. refers (position (λ e. not (refers_rightly read.0 e)) read.0) read))

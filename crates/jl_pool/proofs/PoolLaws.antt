@@ -1,15 +1,19 @@
 -- The entries of constants make a pool, and stand at the indices of the constants.
 use Rattle.std.proofs.Common.{◌≡◌, ℕ, zero, suc, ◌+◌, ◌<◌, true, false, List, [], ◌∷◌, map, slice_get, Some, refl, sym, ap, subst, ◌∙◌, arith, inl, inr}
-use Rattle.std.specs.Prelude.{IsTrue}
+use Rattle.std.specs.Prelude.{IsTrue, IsUtf8, Contains}
 use Rattle.std.specs.List.{position_or_len, AllByRecursion}
 use Rattle.std.proofs.lemmas.Bool.{cases_Bool}
 use Rattle.std.proofs.lemmas.List.{length-map}
 use Rattle.std.proofs.lemmas.Option.{slice_get-map}
 use Rattle.std.proofs.Math.Numerals.{add-one}
-use Rattle.jl_names.proofs.Utf16Laws.{utf16_units}
+use Rattle.jl_logic.specs.Lists.{AreDistinct}
+use Rattle.jl_names.specs.Text.{plain}
+use Rattle.jl_names.specs.Utf16.{utf16}
+use Rattle.jl_names.proofs.Utf16Laws.{utf16_units, utf16_back}
 use Rattle.jl_pool.specs.declared.constant.Constant.{Constant}
 use Rattle.jl_pool.specs.declared.constant.Constant.TheVariants as constants
 use Rattle.jl_pool.specs.declared.entry.Entry.{Entry}
+use Rattle.jl_pool.specs.declared.entry.Entry.TheVariants as entries
 use Rattle.jl_pool.specs.Builder.{is_same, text_in, has, index_of, entry_of, entries_of, pool_of, IsKept, AreKept}
 use Rattle.jl_pool.specs.Pool.{is_utf8, refers_rightly}
 use Rattle.jl_pool.specs.Spelling.{EntryFits, AreSpaced, ArePoolEntries}
@@ -75,3 +79,61 @@ kept_text (c ∷ cs) all zero d a e = subst (λ (x : Constant). has all (constan
     some_is : (x y : Constant) → Some x ≡ Some y → x ≡ y
     some_is x y e = cc
 kept_text (c ∷ cs) all (suc i) d a e = kept_text cs all i d a.1 e
+
+-- ---- no entry is there twice
+
+some_is : (x y : Constant) → Some x ≡ Some y → x ≡ y
+some_is x y e = cc
+
+text_is : (t u : List ℕ) → constants.Text t ≡ constants.Text u → t ≡ u
+text_is t u e = cc
+
+same_units : (t u : List ℕ) → IsUtf8 t → IsUtf8 u → utf16 t ≡ utf16 u → t ≡ u
+same_units t u a b e = sym (utf16_back t a) ∙ (ap plain e ∙ utf16_back u b)
+
+same_index : (cs : List Constant) (t u : List ℕ) → has cs (constants.Text t) ≡ true → has cs (constants.Text u) ≡ true → index_of cs (constants.Text t) ≡ index_of cs (constants.Text u) → t ≡ u
+same_index cs t u a b e =
+    let place : position_or_len (is_same (constants.Text t)) cs ≡ position_or_len (is_same (constants.Text u)) cs = omega (arith, e) in
+    text_is t u (some_is (constants.Text t) (constants.Text u) (sym (first_that (constants.Text t) cs a) ∙ (ap (slice_get cs) place ∙ first_that (constants.Text u) cs b)))
+
+units_in : (t u : List ℕ) → entries.Utf8 t ≡ entries.Utf8 u → t ≡ u
+units_in t u e = cc
+
+class_in : (i j : ℕ) → entries.Class i ≡ entries.Class j → i ≡ j
+class_in i j e = cc
+
+module_in : (i j : ℕ) → entries.Module i ≡ entries.Module j → i ≡ j
+module_in i j e = cc
+
+package_in : (i j : ℕ) → entries.Package i ≡ entries.Package j → i ≡ j
+package_in i j e = cc
+
+same_entry : (cs : List Constant) (a b : Constant) → IsKept cs a → IsKept cs b → entry_of cs a ≡ entry_of cs b → a ≡ b
+same_entry cs (constants.Text t) (constants.Text u) a b e = ap (λ (x : List ℕ). constants.Text x) (same_units t u a.utf8 b.utf8 (units_in (utf16 t) (utf16 u) e))
+same_entry cs (constants.Class t) (constants.Class u) a b e = ap (λ (x : List ℕ). constants.Class x) (same_index cs t u a.text b.text (class_in _ _ e))
+same_entry cs (constants.Module t) (constants.Module u) a b e = ap (λ (x : List ℕ). constants.Module x) (same_index cs t u a.text b.text (module_in _ _ e))
+same_entry cs (constants.Package t) (constants.Package u) a b e = ap (λ (x : List ℕ). constants.Package x) (same_index cs t u a.text b.text (package_in _ _ e))
+same_entry cs _ _ a b e = absurd cc
+
+kept_among : (all cs : List Constant) (x : Constant) → AllByRecursion (IsKept all) cs → IsKept all x → Contains (map (entry_of all) cs) (entry_of all x) → Contains cs x
+kept_among all [] x each k (i, l, e) = absurd (omega (arith, l))
+kept_among all (c ∷ cs) x each k (zero, l, e) = (0, omega arith, same_entry all c x each.0 k e)
+kept_among all (c ∷ cs) x each k (suc i, l, e) = let c = kept_among all cs x each.1 k (i, omega (arith, l), e) in (suc c.0, omega (arith, c.1), c.2)
+
+apart_entries : (all cs : List Constant) → AllByRecursion (IsKept all) cs → AreDistinct cs → AreDistinct (map (entry_of all) cs)
+apart_entries all [] each d = tt
+apart_entries all (c ∷ cs) each d = ((λ there. d.0 (kept_among all cs c each.1 each.0 there)), apart_entries all cs each.1 d.1)
+
+used : (all : List Constant) (c : Constant) → entry_of all c ≡ entries.Unused → ⊥
+used all (constants.Text t) e = absurd cc
+used all (constants.Class t) e = absurd cc
+used all (constants.Module t) e = absurd cc
+used all (constants.Package t) e = absurd cc
+
+all_used : (all cs : List Constant) → Contains (map (entry_of all) cs) entries.Unused → ⊥
+all_used all [] (i, l, e) = omega (arith, l)
+all_used all (c ∷ cs) (zero, l, e) = used all c e
+all_used all (c ∷ cs) (suc i, l, e) = all_used all cs (i, omega (arith, l), e)
+
+pub distinct_entries : (cs : List Constant) → AreKept cs → AreDistinct (pool_of cs)
+distinct_entries cs kept = (all_used cs cs, apart_entries cs cs kept.each kept.distinct)

@@ -2,6 +2,7 @@
 use Rattle.std.specs.Prelude.{ℕ, ◌+◌, ◌<◌, nat_lt, List, [], ◌∷◌, ◌++◌, length, map, Result, Ok, Err, Bool, false, IsTrue, IsUtf8, Option, None, Some, if◌then◌else◌}
 use Rattle.std.specs.List.{list_any, position_or_len, AllByRecursion}
 use Rattle.jl_logic.specs.Order.{is_text}
+use Rattle.jl_logic.specs.Lists.{AreDistinct}
 use Rattle.jl_names.specs.Text.{text_bytes}
 use Rattle.jl_names.specs.Utf16.{utf16}
 use Rattle.jl_pool.specs.declared.constant.Constant.{Constant}
@@ -82,4 +83,5 @@ pub record IsKept (cs : List Constant) (c : Constant) : Type 0 where
 -- constants that make a pool
 pub record AreKept (cs : List Constant) : Type 0 where
   pub few : length cs < 65535
+  pub distinct : AreDistinct cs
   pub each : AllByRecursion (IsKept cs) cs

@@ -1,7 +1,8 @@
 //! Making a pool.
 
-ghost use Rattle.std.specs.Prelude.{◌≡◌, ◌<◌, [], ◌∷◌, nat_lt, length, IfOk, IfErr, OnOk, OnErr, IsOkUnless, IsTrue, IsUtf8, ◌+◌, ◌||◌, if◌then◌else◌};
+ghost use Rattle.std.specs.Prelude.{◌≡◌, ◌<◌, [], ◌∷◌, nat_lt, length, IfOk, IfErr, OnOk, OnErr, IsOkUnless, IsTrue, IsUtf8, ◌+◌, ◌||◌, ◌⊎◌, if◌then◌else◌};
 ghost use Rattle.jl_logic.specs.Answers.{Gives};
+ghost use Rattle.jl_logic.specs.Lists.{AreDistinct};
 ghost use Rattle.jl_pool.specs.declared.constant.Constant.TheVariants as constants;
 ghost use Rattle.jl_pool.specs.declared.constant.BuildEnd.TheVariants as ends;
 ghost use Rattle.jl_pool.specs.Builder.{build_told, has, is_same, index_of, index_in, with_constant, with_needed, fitting, text_in, IsShort, AreKept, entry_of, entries_of, pool_of};
@@ -10,6 +11,7 @@ ghost use Rattle.jl_pool.specs.Spelling.{ArePoolEntries};
 
 use crate::constant::{BuildEnd, Constant};
 use crate::entry::{Entry, Text};
+use crate::memory::made;
 use indexmap::IndexSet;
 use jl_names::utf16_of;
 use jl_prim::{Copied, CopyEnd, Name};
@@ -74,6 +76,7 @@ impl PoolBuilder {
         ensures index { IfOk result (λ i. i ≡ index_of self.new constant) }
         ensures exact { Gives build_told (λ _. with_needed self.old constant) result (fitting (with_needed self.old constant)) }
         ensures many { IfErr result (λ e. e ≡ ends.TooMany → self.new ≡ self.old) }
+        ensures wanting { OnErr result ((self.new ≡ self.old) ⊎ (self.new ≡ with_constant self.old (constants.Text (text_in constant)))) }
     {
         let text = text_of(&constant)?;
         if !self.has_room(&text, &constant) {
@@ -89,6 +92,8 @@ impl PoolBuilder {
         // They make a pool, in which each constant has its text.
         ensures right { IfOk result (λ _. ArePoolEntries (entries_of self.now)) }
         ensures kept { IfOk result (λ _. AreKept self.now) }
+        // No two of them are the same.
+        ensures distinct { IfOk result (λ pool. AreDistinct pool.items) }
         // No other error comes.
         ensures memory { IsOkUnless result BuildEnd.NoMemory }
     {
@@ -162,7 +167,7 @@ fn text_entry(alloc: Global, name: &Name) -> Result<Text, BuildEnd>
     ensures text { IfOk result (λ text. text ≡ utf16 name.now) }
     ensures memory { IsOkUnless result BuildEnd.NoMemory }
 {
-    let units = utf16_of(alloc, name.as_str())?;
+    let units = made(utf16_of(alloc, name.as_str()))?;
     Ok(Text::new(units, name.copy()?))
 }
 

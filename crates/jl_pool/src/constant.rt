@@ -6,7 +6,8 @@ ghost use Rattle.jl_names.specs.Utf16.{utf16};
 ghost use Rattle.jl_pool.specs.Builder.{text_in};
 ghost use Rattle.jl_pool.specs.declared.constant.BuildEnd.TheVariants as ends;
 
-use jl_names::{TextFault, bytes_of, utf16_of};
+use crate::memory::made;
+use jl_names::{bytes_of, utf16_of};
 use jl_prim::{CopyEnd, Name};
 use std::alloc::{AllocError, AllocFailed, Global};
 
@@ -54,15 +55,6 @@ impl From<CopyEnd> for BuildEnd {
     }
 }
 
-impl From<TextFault> for BuildEnd {
-    ghost from_gives = { λ _ e. e ≡ ends.NoMemory };
-
-    // the text of a name is always units, so that only memory can be wanting
-    fn from(_e: TextFault) -> BuildEnd {
-        BuildEnd::NoMemory
-    }
-}
-
 impl Constant {
     /// The text of the constant, or of its name.
     pub fn text(&self) -> &Name
@@ -81,8 +73,8 @@ impl Constant {
         ensures short { IfOk result (λ short. short ≡ nat_le (length (text_bytes (utf16 (text_in self.now)))) 65535) }
         ensures memory { IsOkUnless result BuildEnd.NoMemory }
     {
-        let units = utf16_of(alloc, self.text().as_str())?;
-        let bytes = bytes_of(alloc, units.as_slice())?;
+        let units = made(utf16_of(alloc, self.text().as_str()))?;
+        let bytes = made(bytes_of(alloc, units.as_slice()))?;
         Ok(bytes.len() <= MOST_BYTES)
     }
 }

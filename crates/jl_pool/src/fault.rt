@@ -4,6 +4,7 @@ ghost use Rattle.std.specs.Prelude.{◌≡◌};
 ghost use Rattle.jl_pool.specs.declared.fault.PoolFault.TheVariants.{NoMemory};
 ghost use Rattle.jl_pool.specs.declared.fault.PoolWriteFault.TheVariants as writes;
 
+use jl_prim::CopyEnd;
 use jl_reading::Fault;
 use std::alloc::{AllocError, AllocFailed};
 
@@ -35,6 +36,14 @@ impl Fault for PoolFault {
     }
 }
 
+impl From<CopyEnd> for PoolFault {
+    ghost from_gives = { λ _ e. e ≡ NoMemory };
+
+    fn from(_e: CopyEnd) -> PoolFault {
+        PoolFault::NoMemory
+    }
+}
+
 impl From<AllocError> for PoolFault {
     ghost from_gives = { λ _ e. e ≡ NoMemory };
 
@@ -56,6 +65,14 @@ impl<T: Drop> From<AllocFailed<T>> for PoolFault {
 pub enum PoolWriteFault {
     /// There was no memory for the bytes.
     NoMemory,
+}
+
+impl From<CopyEnd> for PoolWriteFault {
+    ghost from_gives = { λ _ e. e ≡ writes.NoMemory };
+
+    fn from(_e: CopyEnd) -> PoolWriteFault {
+        PoolWriteFault::NoMemory
+    }
 }
 
 impl From<AllocError> for PoolWriteFault {

@@ -20,8 +20,3 @@ pub use law::reads_longer;
 pub use pool::Pool;
 pub use reading::read_pool;
 pub use writing::{pool_bytes, push_u16, push_u32};
-
-#[cfg(test)]
-mod builder_tests;
-#[cfg(test)]
-mod tests;

@@ -1,7 +1,7 @@
 //! Reading a pool.
 
 ghost use Rattle.std.specs.Prelude.{◌≤◌, ◌≡◌, ◌+◌, ◌-◌, ◌<◌, List, [], ◌∷◌, ℕ, length, IfOk, Ok, not, position};
-ghost use Rattle.jl_logic.specs.Answers.{Gives};
+ghost use Rattle.jl_logic.specs.Answers.{Gives, Tells};
 ghost use Rattle.jl_reading.specs.Reading.{each_at};
 ghost use Rattle.jl_names.specs.Text.{units_read};
 ghost use Rattle.jl_pool.specs.Reading.{told, units_or, text_at as text_read, indices_at as indices_read, eight_at as eight_read, handle_at as handle_read, content_at as content_read, ends_wide as ends_wide_entry, entry_at as entry_read, refers_or, pool_at};
@@ -10,6 +10,7 @@ ghost use Rattle.jl_pool.specs.declared.entry.Entry.TheVariants as entries;
 
 use crate::entry::{Entry, Text};
 use crate::fault::PoolFault;
+use crate::memory::made;
 use crate::pool::Pool;
 use crate::references::wrong_at;
 use jl_names::{TextFault, plain_text, units_of};
@@ -19,24 +20,22 @@ use std::alloc::Global;
 
 /// The text that these bytes spell, with its UTF-8 form.
 fn text_of(alloc: Global, bytes: &[u8], index: u16) -> Result<Text, PoolFault>
-    ensures { Gives told (λ x. x) result (units_or index (units_read bytes.now)) }
+    ensures { Tells told result (units_or index (units_read bytes.now)) }
 {
     let units = match units_of(alloc, bytes) {
         Ok(units) => units,
         Err(TextFault::BadText(_)) => return Err(PoolFault::Entry(index as usize)),
         Err(TextFault::NoMemory) => return Err(PoolFault::NoMemory),
     };
-    match plain_text(alloc, units.as_slice()) {
-        Ok(text) => Ok(Text::new(units, Name::from_string(text))),
-        Err(_) => Err(PoolFault::NoMemory),
-    }
+    let text = made(plain_text(alloc, units.as_slice()))?;
+    Ok(Text::new(units, Name::from_string(text)))
 }
 
 /// A length, and a text of so many bytes.
 #[tactic(auto, unfolding(crate::specs::Reading::text_at))]
 fn text_at(alloc: Global, bytes: &[u8], index: u16, at: usize) -> Result<(Entry, usize), PoolFault>
     requires { at ≤ length bytes.now }
-    ensures exact { Gives told (λ x. x) result (text_read bytes.now index at) }
+    ensures exact { Tells told result (text_read bytes.now index at) }
     ensures within { IfOk result (λ x. x.1 ≤ length bytes.now) }
 {
     let (len, at) = u16_at::<PoolFault>(bytes, at)?;
@@ -52,7 +51,7 @@ fn text_at(alloc: Global, bytes: &[u8], index: u16, at: usize) -> Result<(Entry,
 #[tactic(auto, unfolding(crate::specs::Reading::indices_at))]
 fn indices_at(bytes: &[u8], at: usize) -> Result<((u16, u16), usize), PoolFault>
     requires { at ≤ length bytes.now }
-    ensures exact { Gives told (λ x. x) result (indices_read bytes.now at) }
+    ensures exact { Tells told result (indices_read bytes.now at) }
     ensures within { IfOk result (λ x. x.1 ≤ length bytes.now) }
 {
     let (one, at) = u16_at::<PoolFault>(bytes, at)?;
@@ -64,7 +63,7 @@ fn indices_at(bytes: &[u8], at: usize) -> Result<((u16, u16), usize), PoolFault>
 #[tactic(auto, unfolding(crate::specs::Reading::handle_at))]
 fn handle_at(bytes: &[u8], at: usize) -> Result<(Entry, usize), PoolFault>
     requires { at ≤ length bytes.now }
-    ensures exact { Gives told (λ x. x) result (handle_read bytes.now at) }
+    ensures exact { Tells told result (handle_read bytes.now at) }
     ensures within { IfOk result (λ x. x.1 ≤ length bytes.now) }
 {
     let (kind, at) = byte_at::<PoolFault>(bytes, at)?;
@@ -77,7 +76,7 @@ fn handle_at(bytes: &[u8], at: usize) -> Result<(Entry, usize), PoolFault>
 fn eight_at(bytes: &[u8], count: u16, index: u16, at: usize) -> Result<(u64, usize), PoolFault>
     requires placed { at ≤ length bytes.now }
     requires counted { index < count }
-    ensures exact { Gives told (λ x. x) result (eight_read count index bytes.now at) }
+    ensures exact { Tells told result (eight_read count index bytes.now at) }
     ensures within { IfOk result (λ x. x.1 ≤ length bytes.now) }
 {
     if index + 1 == count {
@@ -98,7 +97,7 @@ fn content_at(
 ) -> Result<(Entry, usize), PoolFault>
     requires placed { at ≤ length bytes.now }
     requires counted { index < count }
-    ensures exact { Gives told (λ x. x) result (content_read tag count index bytes.now at) }
+    ensures exact { Tells told result (content_read tag count index bytes.now at) }
     ensures within { IfOk result (λ x. x.1 ≤ length bytes.now) }
 {
     match tag {
@@ -143,7 +142,7 @@ fn entry_at(
     requires placed { at ≤ length bytes.now }
     requires counted { index < count }
     requires behind { index ≡ length entries.now }
-    ensures exact { Gives told (λ x. x) result (entry_read count bytes.now entries.now at) }
+    ensures exact { Tells told result (entry_read count bytes.now entries.now at) }
     ensures within { IfOk result (λ x. x.1 ≤ length bytes.now) }
 {
     if ends_wide(entries) {
@@ -183,10 +182,10 @@ fn entries_at(
 #[tactic(auto, unfolding(crate::specs::Reading::pool_at))]
 pub fn read_pool(alloc: Global, bytes: &[u8], at: usize) -> Result<(Pool, usize), PoolFault>
     requires { at ≤ length bytes.now }
-    ensures exact { Gives told (λ x. x) result (pool_at bytes.now at) }
+    ensures exact { Tells told result (pool_at bytes.now at) }
     ensures within { IfOk result (λ x. x.1 ≤ length bytes.now) }
     ensures found { IfOk result (λ x. StandsPool bytes.now at x.0 x.1) }
-    ensures only { (pool : List Entry) (next : ℕ) → StandsPool bytes.now at pool next → Gives told (λ x. x) result (Ok (pool, next)) }
+    ensures only { (pool : List Entry) (next : ℕ) → StandsPool bytes.now at pool next → Tells told result (Ok (pool, next)) }
 {
     let (count, at) = u16_at::<PoolFault>(bytes, at)?;
     let (entries, next) = entries_at(alloc, count, bytes, at)?;

@@ -1,6 +1,6 @@
 //! Writing entries and pools.
 
-ghost use Rattle.std.specs.Prelude.{◌≡◌, ◌<◌, ◌++◌, length, IfOk, OnOk, IsOkUnless};
+ghost use Rattle.std.specs.Prelude.{◌≡◌, ◌<◌, ◌++◌, length, IfOk, OnOk, OnErr, IsOkUnless};
 ghost use Rattle.std.specs.List.{flat_map, AllByRecursion};
 ghost use Rattle.byteorder.specs.Endian.{big_bytes};
 ghost use Rattle.jl_names.specs.Text.{text_bytes};
@@ -10,12 +10,15 @@ ghost use Rattle.jl_pool.specs.Spelling.{entry_bytes, EntryFits};
 
 use crate::entry::{Entry, Text};
 use crate::fault::PoolWriteFault;
+use crate::memory::made;
 use jl_names::bytes_of;
 use std::alloc::Global;
 
 /// Writes a number in two bytes, the high one first, behind others.
 pub fn push_u16(bytes: &mut Vec<u8>, n: u16) -> Result<(), PoolWriteFault>
     ensures bytes { OnOk result (bytes.new.items ≡ bytes.old.items ++ two n) }
+    // Without memory the bytes are as before.
+    ensures as_before { OnErr result (bytes.new.items ≡ bytes.old.items) }
     ensures memory { IsOkUnless result PoolWriteFault.NoMemory }
 {
     bytes.extend_from_slice(&n.to_be_bytes())?;
@@ -25,6 +28,8 @@ pub fn push_u16(bytes: &mut Vec<u8>, n: u16) -> Result<(), PoolWriteFault>
 /// Writes a number in four bytes, the highest first, behind others.
 pub fn push_u32(bytes: &mut Vec<u8>, n: u32) -> Result<(), PoolWriteFault>
     ensures bytes { OnOk result (bytes.new.items ≡ bytes.old.items ++ four n) }
+    // Without memory the bytes are as before.
+    ensures as_before { OnErr result (bytes.new.items ≡ bytes.old.items) }
     ensures memory { IsOkUnless result PoolWriteFault.NoMemory }
 {
     bytes.extend_from_slice(&n.to_be_bytes())?;
@@ -60,9 +65,7 @@ fn push_text(alloc: Global, bytes: &mut Vec<u8>, text: &Text) -> Result<(), Pool
     ensures bytes { OnOk result (bytes.new.items ≡ bytes.old.items ++ (two (length (text_bytes text.now)) ++ text_bytes text.now)) }
     ensures memory { IsOkUnless result PoolWriteFault.NoMemory }
 {
-    let Ok(spelled) = bytes_of(alloc, text.units().as_slice()) else {
-        return Err(PoolWriteFault::NoMemory);
-    };
+    let spelled = made(bytes_of(alloc, text.units().as_slice()))?;
     push_u16(bytes, spelled.len() as u16)?;
     bytes.extend_from_slice(&spelled)?;
     Ok(())
