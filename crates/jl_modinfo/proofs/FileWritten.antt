@@ -1,5 +1,5 @@
 -- What is written is a file of the declaration.
-use Rattle.std.proofs.Common.{◌≡◌, ℕ, ◌+◌, ◌<◌, true, List, [], ◌∷◌, ◌++◌, map, length, drop, Option, None, Some, refl, sym, ap, ap₂, subst, ◌∙◌, append_assoc, arith, inl, inr}
+use Rattle.std.proofs.Common.{◌≡◌, ℕ, ◌+◌, ◌<◌, ◌≤◌, true, List, [], ◌∷◌, ◌++◌, map, length, drop, Option, None, Some, refl, sym, ap, ap₂, subst, ◌∙◌, append_assoc, arith, inl, inr}
 use Rattle.std.specs.Prelude.{Result, Ok, Err, IfOk, codes}
 use Rattle.std.specs.List.{flat_map, AllByRecursion}
 use Rattle.std.proofs.lemmas.List.{append-nil, length-append, drop_at}
@@ -18,11 +18,12 @@ use Rattle.jl_pool.specs.Pool.{text_of}
 use Rattle.jl_pool.specs.Spelling.{entry_bytes}
 use Rattle.jl_pool.proofs.PoolLaws.{makes_pool}
 use Rattle.jl_modinfo.specs.Info.{Attribute, attribute_bytes, back_bytes, body_bytes, contents, AttributeFits, IsMain, IsInfo}
-use Rattle.jl_modinfo.specs.Writing.{KeepsRules, IsFineMain, write_told, accepted}
+use Rattle.jl_modinfo.specs.Writing.{members, KeepsRules, IsFineMain, write_told, accepted}
 use Rattle.jl_logic.specs.Answers.{Gives}
 use Rattle.jl_modinfo.specs.declared.fault.InfoWriteFault.{InfoWriteFault}
 use Rattle.jl_modinfo.specs.Layout.{package_constant, main_constants, front_constants, table_constants, back_constants, named_constants, class_index, package_index, body_of, named_attribute, main_attributes, attributes_of, counted_by, class_bytes, package_bytes, body_written, attribute_written, main_written, attribute_count, attributes_written, class_written, front_written, pool_written, file_written, AreFew}
 use Rattle.jl_modinfo.proofs.IndexLaws.{class_there, package_there, class_text_there, text_there, small}
+use Rattle.jl_modinfo.proofs.SizeLaws.{small_body, small_packages}
 use Rattle.jl_modinfo.proofs.AllLaws.{all_front, all_back}
 use Rattle.jl_modinfo.proofs.BodyWritten.{body_is, body_same, counted_same, names_there}
 
@@ -111,9 +112,11 @@ module _ (cs : List Constant) (kept : AreKept cs) where
   few_attributes None = omega arith
   few_attributes (Some m) = omega arith
 
-  pub whole : (d : Declaration) → AllByRecursion (λ (c : Constant). has cs c ≡ true) (named_constants d) → AreFew d → length (body_written cs d) < 4294967296 → length (counted_by (package_bytes cs) d.packages) < 4294967296
-      → KeepsRules d → (found : List (List ℕ)) → IsInfo (file_written cs d) found d
-  whole d there few lt_body lt_packages rules found =
+  pub whole : (d : Declaration) → AllByRecursion (λ (c : Constant). has cs c ≡ true) (named_constants d) → AreFew d
+      → members d ≤ 16777216 → KeepsRules d → (found : List (List ℕ)) → IsInfo (file_written cs d) found d
+  whole d there few few_members rules found =
+      let lt_body = small_body cs d few_members in
+      let lt_packages = small_packages cs d few_members in
       let front = all_front There (front_constants d) (table_constants d ++ back_constants d) there in
       let behind = all_back There (table_constants d) (back_constants d) (all_back There (front_constants d) (table_constants d ++ back_constants d) there) in
       let packages = all_front There (map package_constant d.packages) (main_constants d.main) behind.1 in
@@ -164,10 +167,10 @@ module _ (cs : List Constant) (kept : AreKept cs) where
 -- ---- the clause on what is read back
 
 pub written_back : {X : Type 0} (items : X → List ℕ) (r : Result X InfoWriteFault) (cs : List Constant) (d : Declaration) → AllByRecursion (λ (c : Constant). has cs c ≡ true) (named_constants d) → AreFew d
-    → IfOk r (λ x. items x ≡ file_written cs d) → IfOk r (λ _. AreKept cs) → IfOk r (λ _. length (body_written cs d) < 4294967296) → IfOk r (λ _. length (counted_by (package_bytes cs) d.packages) < 4294967296)
+    → IfOk r (λ x. items x ≡ file_written cs d) → IfOk r (λ _. AreKept cs) → members d ≤ 16777216
     → IfOk r (λ x. KeepsRules d → (found : List (List ℕ)) → IsInfo (items x) found d)
-written_back items (Ok x) cs d there few e kept body packages = λ rules found. subst (λ (bytes : List ℕ). IsInfo bytes found d) (sym e) (whole cs kept d there few body packages rules found)
-written_back items (Err f) cs d there few e kept body packages = tt
+written_back items (Ok x) cs d there few e kept few_members = λ rules found. subst (λ (bytes : List ℕ). IsInfo bytes found d) (sym e) (whole cs kept d there few few_members rules found)
+written_back items (Err f) cs d there few e kept few_members = tt
 
 pub refused_never : {X : Type 0} (P : X → Type 0) (r : Result X InfoWriteFault) (table : List ℕ) → Gives {Y = Unit {0}} write_told (λ _. tt) r (accepted (Some table)) → IfOk r P
 refused_never P (Ok x) table e = absurd cc

@@ -18,3 +18,5 @@ pub mod FileLaws
 pub mod IndexLaws
 pub mod BodyWritten
 pub mod FileWritten
+pub mod SizeLaws
+pub mod KeptLaws

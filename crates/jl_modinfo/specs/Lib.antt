@@ -6,3 +6,4 @@ pub mod Kinds
 pub mod Info
 pub mod Writing
 pub mod Layout
+pub mod Kept

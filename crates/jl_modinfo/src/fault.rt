@@ -6,7 +6,7 @@ ghost use Rattle.jl_modinfo.specs.declared.fault.InfoFault.TheVariants.{NotModul
 ghost use Rattle.jl_modinfo.specs.declared.fault.InfoWriteFault.TheVariants as writes;
 ghost use Rattle.jl_modinfo.specs.Faults.{told, of_pool};
 
-use jl_pool::{BuildEnd, PoolFault, PoolWriteFault};
+use jl_pool::{PoolFault, PoolWriteFault};
 use jl_prim::{CopyEnd, Name, PushEnd};
 use jl_reading::Fault;
 use std::alloc::{AllocError, AllocFailed, Global};
@@ -71,15 +71,6 @@ impl From<CopyEnd> for InfoWriteFault {
     ghost from_gives = { λ _ e. e ≡ writes.NoMemory };
 
     fn from(_e: CopyEnd) -> InfoWriteFault {
-        InfoWriteFault::NoMemory
-    }
-}
-
-impl From<BuildEnd> for InfoWriteFault {
-    ghost from_gives = { λ _ e. e ≡ writes.NoMemory };
-
-    // of a pool that is built already only memory can be wanting
-    fn from(_e: BuildEnd) -> InfoWriteFault {
         InfoWriteFault::NoMemory
     }
 }

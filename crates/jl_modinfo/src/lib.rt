@@ -7,6 +7,7 @@ mod fault;
 mod front;
 mod grants;
 mod kind;
+mod law;
 mod limits;
 mod meaning;
 mod module;
@@ -21,6 +22,7 @@ mod writable;
 mod writing;
 
 pub use fault::{InfoFault, InfoWriteFault};
+pub use law::files_keep_rules;
 pub use reading::read_info;
 pub use writable::is_writable;
 pub use writing::write_info;

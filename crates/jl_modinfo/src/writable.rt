@@ -36,20 +36,10 @@ fn are_short(alloc: Global, constants: &[Constant]) -> Result<bool, InfoWriteFau
 {
     let mut fine = true;
     for constant in constants {
-        let short = is_short(alloc, constant)?;
+        let short = constant.is_short(alloc)?;
         fine = fine && short;
     }
     Ok(fine)
-}
-
-fn is_short(alloc: Global, constant: &Constant) -> Result<bool, InfoWriteFault>
-    ensures fine { IfOk result (λ fine. fine ≡ is_short_constant constant.now) }
-    ensures memory { IsOkUnless result InfoWriteFault.NoMemory }
-{
-    match constant.is_short(alloc) {
-        Ok(short) => Ok(short),
-        Err(_) => Err(InfoWriteFault::NoMemory),
-    }
 }
 
 /// How many members the lists have together, and one more than the most where they are more.

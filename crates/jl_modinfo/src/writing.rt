@@ -47,6 +47,7 @@ pub fn write_info(alloc: Global, d: &Declaration) -> Result<Vec<u8>, InfoWriteFa
 /// The file of a declaration whose tables are short enough.
 fn fitting_info(alloc: Global, d: &Declaration) -> Result<Vec<u8>, InfoWriteFault>
     requires short { AreShort d.now }
+    requires few { members d.now ≤ 16777216 }
     requires tables { first_long (tables d.now) ≡ None }
     ensures refused { Gives write_told (λ _. tt) result (accepted (too_many d.now)) }
     // What is written is read as the same declaration, whatever was found.
@@ -68,11 +69,10 @@ fn too_long<T>(alloc: Global, table: &str) -> Result<T, InfoWriteFault>
 
 /// The file of a declaration, whose pool this is.
 fn written(alloc: Global, pool: &PoolBuilder, d: &Declaration) -> Result<Vec<u8>, InfoWriteFault>
-    requires { AreFew d.now }
+    requires few { members d.now ≤ 16777216 }
+    requires tables { AreFew d.now }
     ensures bytes { IfOk result (λ bytes. bytes.items ≡ file_written pool.now d.now) }
     ensures kept { IfOk result (λ _. AreKept pool.now) }
-    ensures body { IfOk result (λ _. length (body_written pool.now d.now) < 4294967296) }
-    ensures packages { IfOk result (λ _. length (counted_by (package_bytes pool.now) d.now.packages) < 4294967296) }
     ensures memory { IsOkUnless result InfoWriteFault.NoMemory }
 {
     let mut bytes = Vec::new(alloc);
@@ -135,10 +135,9 @@ fn push_attributes(
     pool: &PoolBuilder,
     d: &Declaration,
 ) -> Result<(), InfoWriteFault>
-    requires { AreFew d.now }
+    requires few { members d.now ≤ 16777216 }
+    requires tables { AreFew d.now }
     ensures bytes { OnOk result (bytes.new.items ≡ bytes.old.items ++ attributes_written pool.now d.now) }
-    ensures body { OnOk result (length (body_written pool.now d.now) < 4294967296) }
-    ensures packages { OnOk result (length (counted_by (package_bytes pool.now) d.now.packages) < 4294967296) }
     ensures memory { IsOkUnless result InfoWriteFault.NoMemory }
 {
     push_u16(bytes, attribute_count_of(&d.main))?;
@@ -164,15 +163,11 @@ fn push_attribute(
     name: &str,
     content: &[u8],
 ) -> Result<(), InfoWriteFault>
+    requires { length content.now < 4294967296 }
     ensures bytes { OnOk result (bytes.new.items ≡ bytes.old.items ++ attribute_written pool.now name.now content.now) }
-    ensures fits { OnOk result (length content.now < 4294967296) }
     ensures memory { IsOkUnless result InfoWriteFault.NoMemory }
 {
     push_index(bytes, pool, Constant::Text(Name::from_text(alloc, name)?))?;
-    // of so few members no content is longer
-    if content.len() > 0xffff_ffff {
-        return Err(InfoWriteFault::NoMemory);
-    }
     push_u32(bytes, content.len() as u32)?;
     bytes.extend_from_slice(content)?;
     Ok(())

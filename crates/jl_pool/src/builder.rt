@@ -87,15 +87,13 @@ impl PoolBuilder {
     }
 
     /// The entries of the pool, the unused one first.
-    pub fn finish(&self, alloc: Global) -> Result<Vec<Entry>, BuildEnd>
+    pub fn finish(&self, alloc: Global) -> Result<Vec<Entry>, CopyEnd>
         ensures pool { IfOk result (λ pool. pool.items ≡ pool_of self.now) }
         // They make a pool, in which each constant has its text.
         ensures right { IfOk result (λ _. ArePoolEntries (entries_of self.now)) }
         ensures kept { IfOk result (λ _. AreKept self.now) }
         // No two of them are the same.
         ensures distinct { IfOk result (λ pool. AreDistinct pool.items) }
-        // No other error comes.
-        ensures memory { IsOkUnless result BuildEnd.NoMemory }
     {
         let mut entries = Vec::new(alloc);
         entries.push(Entry::Unused)?;
@@ -106,10 +104,9 @@ impl PoolBuilder {
     }
 
     /// The entry of a constant whose text is there.
-    fn entry(&self, alloc: Global, constant: &Constant) -> Result<Entry, BuildEnd>
+    fn entry(&self, alloc: Global, constant: &Constant) -> Result<Entry, CopyEnd>
         requires { IsTrue (has self.now (constants.Text (text_in constant.now))) }
-        ensures entry { IfOk result (λ entry. entry ≡ entry_of self.now constant.now) }
-        ensures memory { IsOkUnless result BuildEnd.NoMemory }
+        ensures { IfOk result (λ entry. entry ≡ entry_of self.now constant.now) }
     {
         let name = constant.text();
         let index = self.index(&Constant::Text(name.copy()?));
@@ -163,9 +160,8 @@ fn text_of(constant: &Constant) -> Result<Constant, CopyEnd>
     Ok(Constant::Text(name.copy()?))
 }
 
-fn text_entry(alloc: Global, name: &Name) -> Result<Text, BuildEnd>
-    ensures text { IfOk result (λ text. text ≡ utf16 name.now) }
-    ensures memory { IsOkUnless result BuildEnd.NoMemory }
+fn text_entry(alloc: Global, name: &Name) -> Result<Text, CopyEnd>
+    ensures { IfOk result (λ text. text ≡ utf16 name.now) }
 {
     let units = made(utf16_of(alloc, name.as_str()))?;
     Ok(Text::new(units, name.copy()?))

@@ -69,9 +69,8 @@ impl Constant {
     }
 
     /// Whether the text is short enough for a pool: at most 65,535 bytes (JVMS 4.4.7).
-    pub fn is_short(&self, alloc: Global) -> Result<bool, BuildEnd>
-        ensures short { IfOk result (λ short. short ≡ nat_le (length (text_bytes (utf16 (text_in self.now)))) 65535) }
-        ensures memory { IsOkUnless result BuildEnd.NoMemory }
+    pub fn is_short(&self, alloc: Global) -> Result<bool, CopyEnd>
+        ensures { IfOk result (λ short. short ≡ nat_le (length (text_bytes (utf16 (text_in self.now)))) 65535) }
     {
         let units = made(utf16_of(alloc, self.text().as_str()))?;
         let bytes = made(bytes_of(alloc, units.as_slice()))?;

@@ -19,8 +19,8 @@ pub entered-requires : goal.entered-requires
 entered-requires c =
     subst (AllByRecursion (λ (x : Constant). IsShort (text_in x))) (sym (c.deref.ensures.value ∙ c.in_ok-constants.ensures.constants)) (all_short c.args.d.now c.requires.short)
 
-pub written-requires : goal.written-requires
-written-requires c = are_few c.args.d.now c.requires.tables
+pub written-requires-clause-tables : goal.written-requires-clause-tables
+written-requires-clause-tables c = are_few c.args.d.now c.requires.tables
 
 pub returns-in-Ok : goal.returns-in-Ok
 returns-in-Ok c =
@@ -29,7 +29,7 @@ returns-in-Ok c =
       refused = accepted_unless c.written.result (too_many c.args.d.now) c.written.ensures.memory (refused_none c.args.d.now c.in-Ok.pool c.requires.tables fits);
       back = written_back (λ bytes. bytes.items) c.written.result c.in-Ok.pool c.args.d.now
           (subst (λ (cs : List Constant). AllByRecursion (λ (x : Constant). has cs x ≡ true) (named_constants c.args.d.now)) (fitting_is (with_all [] (named_constants c.args.d.now)) c.in-Ok.pool fits).0 (all_there (named_constants c.args.d.now) []))
-          (are_few c.args.d.now c.requires.tables) c.written.ensures.bytes c.written.ensures.kept c.written.ensures.body c.written.ensures.packages;
+          (are_few c.args.d.now c.requires.tables) c.written.ensures.bytes c.written.ensures.kept c.requires.few;
     }
 
 pub returns-in-Err-TooMany : goal.returns-in-Err-TooMany

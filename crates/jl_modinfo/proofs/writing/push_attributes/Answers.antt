@@ -1,9 +1,18 @@
-use Rattle.std.proofs.Common.{ℕ, List, ◌++◌, ap, ◌∙◌}
+use Rattle.std.proofs.Common.{ℕ, ◌<◌, List, ◌++◌, length, ap, sym, subst, ◌∙◌}
 use Rattle.std.specs.Prelude.{codes}
 use Rattle.jl_reading.specs.Reading.{two}
 use Rattle.jl_modinfo.specs.Layout.{attribute_count, attribute_written, body_written, counted_by, package_bytes, main_written}
+use Rattle.jl_modinfo.proofs.SizeLaws.{small_body, small_packages}
 use Rattle.jl_modinfo.proofs.MoreLaws.{then_more}
 use Rattle.jl_modinfo.proofs.writing.push_attributes.Goals as goal
+
+pub push_attribute-requires : goal.push_attribute-requires
+push_attribute-requires c = subst (λ (l : List ℕ). length l < 4294967296) (sym (c.deref.ensures.value ∙ c.in_ok-body.ensures.bytes)) (small_body c.args.pool.now c.args.d.now c.requires.few)
+
+pub push_attribute-requires-2 : goal.push_attribute-requires-2
+push_attribute-requires-2 c =
+    let is = c.deref-2.ensures.value ∙ (c.in_ok-packages.ensures.bytes ∙ ap (counted_by (package_bytes c.args.pool.now)) c.as_slice.ensures) in
+    subst (λ (l : List ℕ). length l < 4294967296) (sym is) (small_packages c.args.pool.now c.args.d.now c.requires.few)
 
 pub returns-clause-bytes : goal.returns-clause-bytes
 returns-clause-bytes c =
