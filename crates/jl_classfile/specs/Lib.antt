@@ -1,0 +1,4 @@
+pub mod Attributes
+pub mod Front
+pub mod Places
+pub mod Spelling
