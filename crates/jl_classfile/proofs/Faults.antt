@@ -1,5 +1,5 @@
 -- Errors of calls and the faults that they tell.
-use Rattle.std.proofs.Common.{◌≡◌, Option, None, Some, Result, Err, sym, ◌∙◌, ap}
+use Rattle.std.proofs.Common.{◌≡◌, Option, None, Some, Result, Err, ◌∙◌, ap}
 use Rattle.std.specs.Prelude.{⊤, MatchOption}
 use Rattle.jl_logic.specs.Answers.{Fails}
 use Rattle.jl_classfile.specs.Attributes.{IsFault}

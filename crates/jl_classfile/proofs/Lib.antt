@@ -1,2 +1,5 @@
+pub mod AttributeLaws
 pub mod Faults
+pub mod FrontLaws
 pub mod Loops
+pub mod Slots

@@ -1,5 +1,5 @@
 -- Units that a loop reads one after the other, each from a place in the same bytes.
-use Rattle.std.proofs.Common.{◌≡◌, ℕ, ◌-◌, ◌+◌, ◌≤◌, ◌<◌, List, [], ◌∷◌, ◌++◌, Option, Result, Ok, subst}
+use Rattle.std.proofs.Common.{◌≡◌, ℕ, ◌-◌, ◌+◌, ◌<◌, List, [], ◌∷◌, ◌++◌, Option, Result, Ok, subst}
 use Rattle.jl_logic.specs.Answers.{Fails}
 use Rattle.jl_reading.specs.Reading.{each_at, steps_at}
 use Rattle.jl_reading.proofs.Each.{each_more, each_ends, steps_more, steps_end}

@@ -56,3 +56,12 @@ attribute_at r pool bytes done at = do
 -- so many attributes
 abbrev pub attributes_at : {K V F : Type 0} → Reader K V F → List Entry → ℕ → List ℕ → ℕ → Result (List V × ℕ) F
 attributes_at r pool count bytes at = steps_at (attribute_at r pool bytes) count [] at
+
+abbrev pub or_else : {W : Type 0} → Option W → Option W → Option W
+or_else None other = other
+or_else (Some w) other = Some w
+
+-- the first of what holds something
+abbrev pub first_that : {V W : Type 0} → (V → Option W) → List V → Option W
+first_that pick [] = None
+first_that pick (v ∷ vs) = or_else (pick v) (first_that pick vs)

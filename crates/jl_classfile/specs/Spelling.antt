@@ -1,5 +1,5 @@
 -- The spelling of attributes and of counted tables (JVMS 4.1, 4.7).
-use Rattle.std.specs.Prelude.{◌≡◌, ℕ, ◌<◌, List, [], ◌∷◌, ◌++◌, length, map, filter, Option, None, Some, Bool, false, true}
+use Rattle.std.specs.Prelude.{◌≡◌, ℕ, ◌<◌, List, [], ◌∷◌, ◌++◌, length, map, filter, Option, None, Some, Bool, false}
 use Rattle.std.specs.List.{AllByRecursion}
 use Rattle.jl_logic.specs.Lists.{AreDistinct, Match}
 use Rattle.jl_reading.specs.Reading.{two, four}
