@@ -11,7 +11,8 @@ use Rattle.jl_modinfo.specs.declared.fault.InfoFault.TheVariants as faults
 use Rattle.jl_modinfo.specs.Faults.{short}
 use Rattle.jl_modinfo.specs.Meaning.{module_named, package_named, version_named, is_set}
 use Rattle.jl_pool.specs.Pool.{class_named}
-use Rattle.jl_modinfo.specs.Info.{Body, GrantRow, Names, NameAll, IsTable, IsRequires, IsGrant, IsProvides, requires_bytes, grant_bytes, provides_bytes, body_bytes}
+use Rattle.jl_classfile.specs.Spelling.{IsTable}
+use Rattle.jl_modinfo.specs.Info.{Body, GrantRow, Names, NameAll, IsRequires, IsGrant, IsProvides, requires_bytes, grant_bytes, provides_bytes, body_bytes}
 use Rattle.jl_logic.specs.Lists.{Match}
 use Rattle.jl_modinfo.specs.Reading.{name_at, names_at, version_at, requires_table_at, grants_at, opened_named, provides_table_at, ended, module_at, packages_at, main_at}
 use Rattle.jl_reading.proofs.Standing.{number_in, number_read, join, first, second, ends_at}

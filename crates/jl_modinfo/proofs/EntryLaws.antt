@@ -15,7 +15,8 @@ use Rattle.jl_modinfo.specs.declared.fault.InfoFault.TheVariants as faults
 use Rattle.jl_modinfo.specs.Faults.{short, named_or}
 use Rattle.jl_modinfo.specs.Meaning.{module_named, version_named, is_among, targets_of}
 use Rattle.jl_pool.specs.Pool.{class_named}
-use Rattle.jl_modinfo.specs.Info.{RequiresRow, GrantRow, ProvidesRow, Names, NameAll, IsTable, IsRequires, IsProvides, requires_bytes, grant_bytes, provides_bytes}
+use Rattle.jl_classfile.specs.Spelling.{IsTable}
+use Rattle.jl_modinfo.specs.Info.{RequiresRow, GrantRow, ProvidesRow, Names, NameAll, IsRequires, IsProvides, requires_bytes, grant_bytes, provides_bytes}
 use Rattle.jl_modinfo.specs.Reading.{name_at, new_name_at, names_at, version_at, requires_at, requires_table_at, grant_at, grants_at, implementations_at, provides_at, provides_table_at}
 use Rattle.jl_modinfo.proofs.NameLaws.{not_among, among_not}
 use Rattle.jl_reading.proofs.Standing.{Number, number_in, number_read, join, first, second}

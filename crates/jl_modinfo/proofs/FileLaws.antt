@@ -15,10 +15,11 @@ use Rattle.jl_modinfo.specs.declared.attribute.Attributes.{Attributes}
 use Rattle.jl_modinfo.specs.declared.fault.InfoFault.TheVariants as faults
 use Rattle.jl_modinfo.specs.Faults.{pool_or}
 use Rattle.jl_modinfo.specs.Rules.{keeps_base_rule, missing_package}
-use Rattle.jl_modinfo.specs.Info.{Attribute, IsInfo, ArePackages, IsMain, body_bytes, attribute_bytes, contents}
+use Rattle.jl_classfile.specs.Spelling.{Attribute, attribute_bytes, AtMostOne}
+use Rattle.jl_modinfo.specs.Info.{IsInfo, ArePackages, IsMain, body_bytes, contents}
 use Rattle.jl_modinfo.specs.Reading.{attributes_at, whole, ruled, all_there, or_found, declaration_of, front_at, empty_class_at, info_of}
 use Rattle.jl_modinfo.proofs.FrontLaws.{Front, front_stands, front_reads, EmptyClass, empty_class_stands, empty_class_reads}
-use Rattle.jl_modinfo.proofs.AttributeLaws.{AtMostOne, IsPackagesContent, IsMainContent, Declared, AllStand, attributes_stand, attributes_again}
+use Rattle.jl_modinfo.proofs.AttributeLaws.{IsPackagesContent, IsMainContent, Declared, AllStand, attributes_stand, attributes_again}
 use Rattle.jl_reading.proofs.Standing.{join, first, second, ends_at}
 
 -- ---- the rules
@@ -88,13 +89,13 @@ spelled bytes found pool at next end attributes m packages main f p c a e base n
       this = c.this;
       attributes = a.attributes;
       body = module_one.2.0;
-      numbers = (f.small, c.small, a.few);
+      numbers = (f.small, c.small);
       front = f.stands;
       version = f.version;
       pool_stands = p;
       back = ends_at (length bytes) e (join c.stands a.stands);
       this_named = c.named;
-      fit = a.fit;
+      are = a.are;
       module_there = module_one.1 ∙ ap (λ k. k ∷ []) module_one.2.1;
       declares = record {
         fits = d.fits;
@@ -207,6 +208,6 @@ info_reads bytes found d i =
     let f = front_reads bytes 8 (record { minor = i.minor; major = i.major; small = i.numbers.0; stands = i.front; version = i.version }) in
     let p : pool_or (pool_at bytes 8) ≡ Ok (i.pool, i.pool_end) = rw (pool_again bytes 8 i.pool i.pool_end i.pool_stands) refl in
     let c = empty_class_reads i.pool bytes i.pool_end next (record { this = i.this; small = i.numbers.1; stands = s1; named = i.this_named }) in
-    let a = attributes_again i.pool bytes next (length bytes) i.attributes (record { «module» = Some (module_in d); packages = l.listed; main = d.main }) (declared_in bytes found d i l) i.numbers.2 i.fit s2 in
+    let a = attributes_again i.pool bytes next (length bytes) i.attributes (record { «module» = Some (module_in d); packages = l.listed; main = d.main }) (declared_in bytes found d i l) i.are s2 in
     bind_to _ f (bind_to _ p (bind_to _ c (bind_to _ a
     (whole_so found bytes (module_in d) l.listed d.main d (same_declaration d (or_found found l.listed) l.same) i.base i.none_missing))))

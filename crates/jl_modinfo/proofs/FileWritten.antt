@@ -17,11 +17,12 @@ use Rattle.jl_pool.specs.Builder.{has, pool_of, entries_of, AreKept}
 use Rattle.jl_pool.specs.Pool.{text_of}
 use Rattle.jl_pool.specs.Spelling.{entry_bytes}
 use Rattle.jl_pool.proofs.PoolLaws.{makes_pool}
-use Rattle.jl_modinfo.specs.Info.{Attribute, attribute_bytes, back_bytes, body_bytes, contents, AttributeFits, IsMain, IsInfo}
+use Rattle.jl_classfile.specs.Spelling.{Attribute, attribute_bytes, AttributeFits}
+use Rattle.jl_modinfo.specs.Info.{back_bytes, body_bytes, contents, IsMain, IsInfo}
 use Rattle.jl_modinfo.specs.Writing.{members, KeepsRules, IsFineMain, write_told, accepted}
 use Rattle.jl_logic.specs.Answers.{Gives}
 use Rattle.jl_modinfo.specs.declared.fault.InfoWriteFault.{InfoWriteFault}
-use Rattle.jl_modinfo.specs.Layout.{package_constant, main_constants, front_constants, table_constants, back_constants, named_constants, class_index, package_index, body_of, named_attribute, main_attributes, attributes_of, counted_by, class_bytes, package_bytes, body_written, attribute_written, main_written, attribute_count, attributes_written, class_written, front_written, pool_written, file_written, AreFew}
+use Rattle.jl_modinfo.specs.Layout.{package_constant, main_constants, front_constants, table_constants, back_constants, named_constants, class_index, package_index, body_of, named_attribute, main_attributes, attributes_of, class_bytes, package_bytes, attribute_written, main_written, attribute_count, attributes_written, class_written, front_written, pool_written, file_written, AreFew}
 use Rattle.jl_modinfo.proofs.IndexLaws.{class_there, package_there, class_text_there, text_there, small}
 use Rattle.jl_modinfo.proofs.SizeLaws.{small_body, small_packages}
 use Rattle.jl_modinfo.proofs.AllLaws.{all_front, all_back}
@@ -142,9 +143,9 @@ module _ (cs : List Constant) (kept : AreKept cs) where
         this = class_index cs (codes "module-info");
         attributes = attributes_of cs d;
         body = body_of cs d;
-        numbers = (omega arith, small cs kept (constants.Class (codes "module-info")) front.0, let few = few_attributes d.main in omega (arith, few));
+        numbers = (omega arith, small cs kept (constants.Class (codes "module-info")) front.0);
         front = stands_in [] front_written (pool_written cs ++ rest);
-        version = inl refl;
+        version = refl;
         pool_stands = record {
           es = entries_of cs;
           count = length (pool_of cs);
@@ -155,7 +156,7 @@ module _ (cs : List Constant) (kept : AreKept cs) where
         };
         back = subst (λ (text : List ℕ). Stands (file_written cs d) end text (length (file_written cs d))) (back_same cs d) back;
         this_named = class_text_there cs kept (codes "module-info") front.0;
-        fit = right.fit;
+        are = record { few = let few = few_attributes d.main in omega (arith, few); fit = right.fit };
         module_there = right.declared;
         declares = body_is cs kept d there few rules;
         packages = inr (map (package_index cs) d.packages, right.listed, names_there cs kept package_named package_constant names_a_class (package_there cs kept) d.packages packages rules.packages few.packages rules.distinct_packages);

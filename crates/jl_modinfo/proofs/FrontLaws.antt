@@ -1,11 +1,14 @@
 -- The file up to its attributes: what is read stands there, and what stands there is read.
-use Rattle.std.proofs.Common.{◌≡◌, ℕ, ◌+◌, ◌<◌, List, ◌++◌, true, eqb, Option, None, Some, Ok, refl, ap, inl, inr, arith}
-use Rattle.std.specs.Prelude.{◌⊎◌, ◌||◌, codes}
-use Rattle.std.proofs.lemmas.Bool.{eqb-true, or_cases}
+use Rattle.std.proofs.Common.{◌≡◌, ℕ, ◌+◌, ◌<◌, List, ◌++◌, true, eqb, Option, None, Some, Ok, refl, ap, arith}
+use Rattle.std.specs.Prelude.{codes}
+use Rattle.std.proofs.lemmas.Bool.{eqb-true}
 use Rattle.std.specs.Cmp.Lexicographic.{bytes_decides}
-use Rattle.jl_reading.specs.Reading.{Stands, IsBytes, number_at, two, four}
+use Rattle.jl_reading.specs.Reading.{Stands, IsBytes, number_at, two}
 use Rattle.jl_reading.proofs.Steps.{bind_ok, ok_is, bind_to, not_ok, else_ok}
 use Rattle.jl_pool.specs.declared.entry.Entry.{Entry}
+use Rattle.jl_classfile.specs.Front.{is_version, front_bytes}
+use Rattle.jl_classfile.specs.Front as framing
+use Rattle.jl_classfile.proofs.FrontLaws as laws
 use Rattle.jl_modinfo.specs.declared.fault.InfoFault.TheVariants as faults
 use Rattle.jl_modinfo.specs.Faults.{short}
 use Rattle.jl_modinfo.specs.Meaning.{class_text, is_module_info}
@@ -18,59 +21,26 @@ pub record Front (bytes : List ℕ) (at : ℕ) : Type 0 where
   pub minor : ℕ
   pub major : ℕ
   pub small : minor < 65536
-  pub stands : Stands bytes 0 (four 0xCAFEBABE ++ (two minor ++ two major)) at
-  pub version : (major ≡ 53) ⊎ (major ≡ 54)
-
-is_version : (major : ℕ) → (eqb major 53 || eqb major 54) ≡ true → (major ≡ 53) ⊎ (major ≡ 54)
-is_version major e = elim (or_cases (eqb major 53) (eqb major 54) e) [
-  | inl a ↦ inl (eqb-true major 53 a)
-  | inr a ↦ inr (eqb-true major 54 a)
-]
+  pub stands : Stands bytes 0 (front_bytes major minor) at
+  pub version : is_version major minor ≡ true
 
 pub front_stands : (bytes : List ℕ) (at : ℕ) → IsBytes bytes → front_at bytes ≡ Ok at → Front bytes at
 unfolding front_at
 front_stands bytes at b e =
-    let s1 = bind_ok (number_at short 4 bytes 0) _ at e in
-    let g1 = not_ok (eqb s1.0.0 0xCAFEBABE) faults.BadMagic _ at s1.2 in
-    let s2 = bind_ok (number_at short 2 bytes s1.0.1) _ at g1.1 in
-    let s3 = bind_ok (number_at short 2 bytes s2.0.1) _ at s2.2 in
-    let g3 = else_ok (eqb s3.0.0 53 || eqb s3.0.0 54) faults.BadVersion (Ok s3.0.1) at s3.2 in
-    let n1 = number_in short 4 bytes 0 s1.0 b s1.1 in
-    let n2 = number_in short 2 bytes s1.0.1 s2.0 b s2.1 in
-    let n3 = number_in short 2 bytes s2.0.1 s3.0 b s3.1 in
-    let magic : s1.0.0 ≡ 0xCAFEBABE = eqb-true s1.0.0 0xCAFEBABE g1.0 in
-    let end : s3.0.1 ≡ at = ok_is _ _ g3.1 in
+    let s = bind_ok (framing.front_at short faults.BadMagic (λ major minor. faults.BadVersion) bytes 0) (λ version. Ok version.1) at e in
+    let f = laws.front_stands short faults.BadMagic (λ major minor. faults.BadVersion) bytes 0 s.0 b s.1 in
     record {
-      minor = s2.0.0;
-      major = s3.0.0;
-      small = n2.small;
-      stands = ends_at at end (join (known 0xCAFEBABE magic n1) (join n2.stands n3.stands));
-      version = is_version s3.0.0 g3.0;
+      minor = s.0.0.1;
+      major = s.0.0.0;
+      small = f.minor;
+      stands = ends_at at (ok_is s.0.1 at s.2) f.stands;
+      version = f.version;
     }
-
-has_version : (major : ℕ) → (major ≡ 53) ⊎ (major ≡ 54) → (eqb major 53 || eqb major 54) ≡ true
-has_version major v = elim v [
-  | inl e ↦ rw e refl
-  | inr e ↦ rw e refl
-]
-
-version_small : (major : ℕ) → (major ≡ 53) ⊎ (major ≡ 54) → major < 65536
-version_small major v = elim v [
-  | inl e ↦ omega arith
-  | inr e ↦ omega arith
-]
 
 pub front_reads : (bytes : List ℕ) (at : ℕ) → Front bytes at → front_at bytes ≡ Ok at
 unfolding front_at
 front_reads bytes at f =
-    let s1 = first (four 0xCAFEBABE) (two f.minor ++ two f.major) f.stands in
-    let r1 = second (four 0xCAFEBABE) (two f.minor ++ two f.major) f.stands in
-    let s2 = first (two f.minor) (two f.major) r1 in
-    let s3 = second (two f.minor) (two f.major) r1 in
-    let n1 = number_read short 4 bytes 0 0xCAFEBABE 4 (omega arith) s1 in
-    let n2 = number_read short 2 bytes 4 f.minor 6 f.small s2 in
-    let n3 = number_read short 2 bytes 6 f.major at (version_small f.major f.version) s3 in
-    bind_to _ n1 (bind_to _ n2 (bind_to _ n3 (rw (has_version f.major f.version) refl)))
+    bind_to (λ version. Ok version.1) (laws.front_reads short faults.BadMagic (λ major minor. faults.BadVersion) bytes 0 f.major f.minor at (record { minor = f.small; version = f.version; stands = f.stands })) refl
 
 -- ---- the class with no members
 

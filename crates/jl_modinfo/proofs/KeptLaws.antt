@@ -1,5 +1,5 @@
 -- What a file declares keeps the rules under which writing gives it back.
-use Rattle.std.proofs.Common.{◌≡◌, ℕ, Bool, true, cond, List, [], ◌∷◌, map, Option, None, Some, refl, sym, subst, ◌∙◌, inl, inr}
+use Rattle.std.proofs.Common.{◌≡◌, ℕ, Bool, true, List, [], ◌∷◌, map, Option, None, Some, refl, sym, subst, ◌∙◌, inl, inr}
 use Rattle.std.specs.Prelude.{IsTrue}
 use Rattle.std.specs.List.{AllByRecursion}
 use Rattle.std.proofs.lemmas.Bool.{cond_both}
@@ -9,13 +9,13 @@ use Rattle.jl_prim.specs.Names.{names_a_module}
 use Rattle.jl_prim.specs.declared.declaration.Requires.{Requires}
 use Rattle.jl_prim.specs.declared.declaration.Grant.{Grant}
 use Rattle.jl_prim.specs.declared.declaration.Provides.{Provides}
-use Rattle.jl_prim.specs.declared.declaration.Declaration.{Declaration}
 use Rattle.jl_names.specs.Names.{names_a_class}
 use Rattle.jl_pool.specs.declared.entry.Entry.{Entry}
 use Rattle.jl_pool.specs.Pool.{that, text_that, paired_text, class_of, module_of, package_of, class_named}
+use Rattle.jl_classfile.specs.Spelling.{Attribute}
 use Rattle.jl_modinfo.specs.Meaning.{module_named, package_named, targets_of}
-use Rattle.jl_modinfo.specs.Info.{RequiresRow, GrantRow, ProvidesRow, Attribute, Names, NameAll, IsRequires, IsGrant, IsProvides, ArePackages, IsMain, IsInfo}
-use Rattle.jl_modinfo.specs.Writing.{targets, AreModules, AreClasses, IsFineGrant, IsFineProvides, IsFineMain, KeepsRules}
+use Rattle.jl_modinfo.specs.Info.{RequiresRow, GrantRow, ProvidesRow, Names, NameAll, IsRequires, IsGrant, IsProvides, ArePackages, IsMain}
+use Rattle.jl_modinfo.specs.Writing.{targets, AreModules, AreClasses, IsFineGrant, IsFineProvides, IsFineMain}
 use Rattle.jl_modinfo.specs.Kept.{FilesKeepRules}
 
 -- ---- names

@@ -7,7 +7,6 @@ pub mod LimitLaws
 pub mod MemberLaws
 pub mod NeedLaws
 pub mod NameLaws
-pub mod OnceLaws
 pub mod PackageLaws
 pub mod FrontLaws
 pub mod TableLaws
@@ -20,3 +19,5 @@ pub mod BodyWritten
 pub mod FileWritten
 pub mod SizeLaws
 pub mod KeptLaws
+mod FilledRows
+pub mod PartLaws

@@ -6,7 +6,8 @@ use Rattle.jl_pool.specs.declared.entry.Entry.{Entry}
 use Rattle.jl_pool.specs.declared.entry.Entry.TheVariants as entries
 use Rattle.jl_names.specs.Text.{plain, has_no_lone_surrogate}
 use Rattle.jl_modinfo.specs.declared.fault.InfoFault.TheVariants as faults
-use Rattle.jl_modinfo.specs.Reading.{front_at, zero_at, name_at, new_name_at, version_at, requires_at, implementations_at, opened_named, content_end, passed_over, unread}
+use Rattle.jl_modinfo.specs.Reading.{front_at, zero_at, name_at, new_name_at, version_at, requires_at, implementations_at, opened_named}
+use Rattle.jl_classfile.specs.Front as framing
 use Rattle.jl_modinfo.specs.Meaning.{module_named, targets_of}
 use Rattle.jl_modinfo.specs.Rules.{keeps_base_rule}
 
@@ -17,15 +18,15 @@ abbrev front : List ℕ
 front = 0xca ∷ 0xfe ∷ 0xba ∷ 0xbe ∷ 0 ∷ 3 ∷ 0 ∷ 53 ∷ []
 
 front_read : front_at front ≡ Ok 8
-unfolding front_at
+unfolding front_at framing.front_at
 front_read = refl
 
 front_cut : front_at (0xca ∷ 0xfe ∷ 0xba ∷ 0xbe ∷ 0 ∷ 3 ∷ 0 ∷ []) ≡ Err (faults.Short 6)
-unfolding front_at
+unfolding front_at framing.front_at
 front_cut = refl
 
 front_old : front_at (0xca ∷ 0xfe ∷ 0xba ∷ 0xbe ∷ 0 ∷ 3 ∷ 0 ∷ 52 ∷ []) ≡ Err faults.BadVersion
-unfolding front_at
+unfolding front_at framing.front_at
 front_old = refl
 
 one_interface : zero_at (codes "interfaces") (9 ∷ 0 ∷ 1 ∷ []) 1 ≡ Err (faults.NotModule (codes "interfaces"))
@@ -77,10 +78,10 @@ base_requires = refl
 others_require_base : keeps_base_rule (codes "a") (record { name = codes "java.base"; transitive = true; is_static = true } ∷ []) ≡ true
 others_require_base = refl
 
-passed : passed_over (9 ∷ 0 ∷ 0 ∷ 0 ∷ 1 ∷ 7 ∷ 8 ∷ []) unread 1 ≡ Ok (unread, 6)
-unfolding passed_over content_end
-passed = refl
+front_old_minor : front_at (0xca ∷ 0xfe ∷ 0xba ∷ 0xbe ∷ 0 ∷ 1 ∷ 0 ∷ 55 ∷ []) ≡ Ok 8
+unfolding front_at framing.front_at
+front_old_minor = refl
 
-too_long : content_end (0 ∷ 0 ∷ 0 ∷ 2 ∷ 9 ∷ []) 0 ≡ Err (faults.Short 4)
-unfolding content_end
-too_long = refl
+front_new_minor : front_at (0xca ∷ 0xfe ∷ 0xba ∷ 0xbe ∷ 0 ∷ 1 ∷ 0 ∷ 56 ∷ []) ≡ Err faults.BadVersion
+unfolding front_at framing.front_at
+front_new_minor = refl

@@ -4,7 +4,6 @@ use Rattle.std.specs.List.{flat_map, sum_by}
 use Rattle.std.proofs.lemmas.List.{length-append}
 use Rattle.std.proofs.lemmas.List.Concat.{flat_map-cons}
 use Rattle.std.proofs.lemmas.List.Sums.{sum_by-cons}
-use Rattle.jl_prim.specs.declared.declaration.Requires.{Requires}
 use Rattle.jl_prim.specs.declared.declaration.Grant.{Grant}
 use Rattle.jl_prim.specs.declared.declaration.Provides.{Provides}
 use Rattle.jl_prim.specs.declared.declaration.Declaration.{Declaration}

@@ -8,7 +8,7 @@ use Rattle.jl_logic.proofs.Matching.{match_as}
 use Rattle.jl_reading.specs.Reading.{◌>>=◌, Stands, number_at, each_at, counted}
 use Rattle.jl_reading.proofs.Stands.{Along}
 use Rattle.jl_reading.proofs.Tables.{EntryReads, Table, table_reads}
-use Rattle.jl_modinfo.specs.Info.{IsTable}
+use Rattle.jl_classfile.specs.Spelling.{IsTable}
 
 -- the key of an entry is none of those before it
 abbrev pub Fresh : {B K : Type 0} → (B → K) → List B → B → Type 0

@@ -1,16 +1,18 @@
 -- The spelling of a declaration file: a relation between its bytes and a declaration (JVMS 4.1, 4.7.25 to 4.7.27).
-use Rattle.std.specs.Prelude.{◌≡◌, ℕ, ◌<◌, List, [], ◌∷◌, ◌++◌, length, map, filter, Option, None, Some, IsTrue, Bool, true, false, codes, ◌⊎◌}
-use Rattle.std.specs.List.{AllByRecursion}
+use Rattle.std.specs.Prelude.{◌≡◌, ℕ, ◌<◌, List, [], ◌∷◌, ◌++◌, length, Option, None, Some, IsTrue, true, codes, ◌⊎◌}
 use Rattle.jl_logic.specs.Order.{is_text}
 use Rattle.jl_logic.specs.Lists.{AreDistinct, Match}
-use Rattle.jl_reading.specs.Reading.{Stands, two, four, counted}
+use Rattle.jl_reading.specs.Reading.{Stands, two, counted}
 use Rattle.jl_prim.specs.declared.declaration.Requires.{Requires}
 use Rattle.jl_prim.specs.declared.declaration.Grant.{Grant}
 use Rattle.jl_prim.specs.declared.declaration.Provides.{Provides}
 use Rattle.jl_prim.specs.declared.declaration.Declaration.{Declaration}
 use Rattle.jl_pool.specs.declared.entry.Entry.{Entry}
-use Rattle.jl_pool.specs.Pool.{text_of, class_named}
+use Rattle.jl_pool.specs.Pool.{class_named}
 use Rattle.jl_pool.specs.Spelling.{StandsPool}
+use Rattle.jl_classfile.specs.Front.{is_version, front_bytes}
+use Rattle.jl_classfile.specs.Spelling.{Attribute, attribute_bytes, AreAttributes, HasName, IsTable}
+use Rattle.jl_classfile.specs.Spelling as framing
 use Rattle.jl_modinfo.specs.Meaning.{module_named, package_named, class_text, version_named, is_set, targets_of}
 use Rattle.jl_modinfo.specs.Rules.{keeps_base_rule, missing_package}
 
@@ -44,11 +46,6 @@ pub record Body : Type 0 where
   pub uses : List ℕ
   pub provides : List ProvidesRow
 
--- any attribute: the index of its name, and its content
-pub record Attribute : Type 0 where
-  pub index : ℕ
-  pub content : List ℕ
-
 -- ---- their bytes
 
 abbrev pub requires_bytes : RequiresRow → List ℕ
@@ -66,9 +63,6 @@ body_bytes b =
     two b.index ++ (two b.flags ++ (two b.version ++ (counted requires_bytes b.required ++ (counted grant_bytes b.exports
     ++ (counted grant_bytes b.opens ++ (counted two b.uses ++ counted provides_bytes b.provides))))))
 
-abbrev pub attribute_bytes : Attribute → List ℕ
-attribute_bytes a = two a.index ++ (four (length a.content) ++ a.content)
-
 -- from the flags of the file to its end: an empty class with its attributes
 abbrev pub back_bytes : ℕ → List Attribute → List ℕ
 back_bytes this attributes =
@@ -78,7 +72,7 @@ back_bytes this attributes =
 
 -- an index of two bytes has this name
 abbrev pub Names : (List Entry → ℕ → Option (List ℕ)) → List Entry → ℕ → List ℕ → Type 0
-Names named pool i name = (i < 65536) × (named pool i ≡ Some name)
+Names named pool i name = HasName (named pool) i name
 
 -- indices have these names, each once
 pub record NameAll (named : List Entry → ℕ → Option (List ℕ)) (pool : List Entry) (is : List ℕ) (names : List (List ℕ)) : Type 0 where
@@ -105,12 +99,6 @@ pub record IsProvides (pool : List Entry) (r : ProvidesRow) (e : Provides) : Typ
   pub all : NameAll class_named pool r.classes e.implementations
   pub some : r.classes ≡ [] → ⊥
 
--- A table declares these entries, no two of which have one key.
-pub record IsTable {A B : Type 0} (R : A → B → Type 0) (key : B → List ℕ) (rows : List A) (entries : List B) : Type 0 where
-  pub few : length rows < 65536
-  pub each : Match R rows entries
-  pub distinct : AreDistinct (map key entries)
-
 -- a Module attribute declares these parts
 pub record IsBody (pool : List Entry) (b : Body) (d : Declaration) : Type 0 where
   pub fits : (b.flags < 65536) × (b.version < 65536)
@@ -126,20 +114,9 @@ pub record IsBody (pool : List Entry) (b : Body) (d : Declaration) : Type 0 wher
 
 -- ---- attributes
 
--- the name of an attribute is this
-abbrev pub is_named : List Entry → List ℕ → Attribute → Bool
-is_named pool name a = is_some_text name (text_of pool a.index) where
-  is_some_text : List ℕ → Option (List ℕ) → Bool
-  is_some_text name None = false
-  is_some_text name (Some text) = is_text text name
-
 -- the contents of the attributes of a name
 abbrev pub contents : List Entry → List ℕ → List Attribute → List (List ℕ)
-contents pool name attributes = map (λ (a : Attribute). a.content) (filter (is_named pool name) attributes)
-
--- an attribute has a name, and its numbers fit their bytes
-abbrev pub AttributeFits : List Entry → Attribute → Type 0
-AttributeFits pool a = (a.index < 65536) × (length a.content < 4294967296) × ((name : List ℕ) × (text_of pool a.index ≡ Some name))
+contents pool name attributes = framing.contents pool (λ text. is_text text name) attributes
 
 -- The packages are listed by at most one attribute, and else those that were found.
 abbrev pub ArePackages : List Entry → List Attribute → List (List ℕ) → List (List ℕ) → Type 0
@@ -163,13 +140,13 @@ pub record IsInfo (bytes : List ℕ) (found : List (List ℕ)) (d : Declaration)
   pub this : ℕ
   pub attributes : List Attribute
   pub body : Body
-  pub numbers : (minor < 65536) × (this < 65536) × (length attributes < 65536)
-  pub front : Stands bytes 0 (four 0xCAFEBABE ++ (two minor ++ two major)) 8
-  pub version : (major ≡ 53) ⊎ (major ≡ 54)
+  pub numbers : (minor < 65536) × (this < 65536)
+  pub front : Stands bytes 0 (front_bytes major minor) 8
+  pub version : IsTrue (is_version major minor)
   pub pool_stands : StandsPool bytes 8 pool pool_end
   pub back : Stands bytes pool_end (back_bytes this attributes) (length bytes)
   pub this_named : class_text pool this ≡ Some (codes "module-info")
-  pub fit : AllByRecursion (AttributeFits pool) attributes
+  pub are : AreAttributes pool attributes
   pub module_there : contents pool (codes "Module") attributes ≡ body_bytes body ∷ []
   pub declares : IsBody pool body d
   pub packages : ArePackages pool attributes found d.packages

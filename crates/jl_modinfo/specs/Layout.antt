@@ -12,7 +12,8 @@ use Rattle.jl_names.specs.Text.{text_bytes}
 use Rattle.jl_names.specs.Utf16.{utf16}
 use Rattle.jl_pool.specs.Builder.{text_in, index_in, pool_of, with_needed}
 use Rattle.jl_pool.specs.Spelling.{entry_bytes}
-use Rattle.jl_modinfo.specs.Info.{RequiresRow, GrantRow, ProvidesRow, Body, Attribute, body_bytes, back_bytes}
+use Rattle.jl_modinfo.specs.Info.{RequiresRow, GrantRow, ProvidesRow, Body, body_bytes, back_bytes}
+use Rattle.jl_classfile.specs.Spelling.{Attribute}
 use Rattle.jl_modinfo.specs.Writing.{Need, Counted, targets}
 
 -- ---- constants

@@ -1,16 +1,24 @@
 -- Reading a declaration file from left to right, with the first fault that is met (JVMS 4.1, 4.7.25 to 4.7.27).
-use Rattle.std.specs.Prelude.{ℕ, ◌+◌, List, [], length, take, map, Option, None, Some, Result, Ok, Err, Bool, not, ◌||◌, nat_lt, ◌==◌, codes, if◌then◌else◌}
+use Rattle.std.specs.Prelude.{ℕ, List, [], length, map, Option, None, Some, Result, Ok, Err, Bool, true, false, not, ◌==◌, codes, if◌then◌else◌}
+use Rattle.std.specs.List.{list_any}
 use Rattle.jl_logic.specs.Order.{is_text}
-use Rattle.jl_reading.specs.Reading.{◌>>=◌, number_at, each_at, steps_at}
+use Rattle.jl_reading.specs.Reading.{◌>>=◌, number_at, each_at}
 use Rattle.jl_prim.specs.declared.declaration.Requires.{Requires}
 use Rattle.jl_prim.specs.declared.declaration.Grant.{Grant}
 use Rattle.jl_prim.specs.declared.declaration.Provides.{Provides}
 use Rattle.jl_prim.specs.declared.declaration.Declaration.{Declaration}
 use Rattle.jl_pool.specs.declared.entry.Entry.{Entry}
-use Rattle.jl_pool.specs.Pool.{text_of, class_named}
+use Rattle.jl_pool.specs.Pool.{class_named}
 use Rattle.jl_pool.specs.Reading.{pool_at}
 use Rattle.jl_modinfo.specs.declared.module.Module.{Module}
+use Rattle.jl_classfile.specs.Attributes.{Reader, first_that}
+use Rattle.jl_classfile.specs.Attributes as framing_attributes
+use Rattle.jl_classfile.specs.Front as framing
 use Rattle.jl_modinfo.specs.declared.attribute.Attributes.{Attributes}
+use Rattle.jl_modinfo.specs.declared.attribute.Form.{Form}
+use Rattle.jl_modinfo.specs.declared.attribute.Form.TheVariants as forms
+use Rattle.jl_modinfo.specs.declared.attribute.Part.{Part}
+use Rattle.jl_modinfo.specs.declared.attribute.Part.TheVariants as parts
 use Rattle.jl_modinfo.specs.declared.fault.InfoFault.{InfoFault}
 use Rattle.jl_modinfo.specs.declared.fault.InfoFault.TheVariants as faults
 use Rattle.jl_modinfo.specs.Meaning.{module_named, package_named, class_text, version_named, is_set, is_module_info, is_among, targets_of}
@@ -22,11 +30,8 @@ use Rattle.jl_modinfo.specs.Faults.{short, pool_or, named_or}
 -- magic and version, up to the pool
 unfoldable pub front_at : List ℕ → Result ℕ InfoFault
 front_at bytes = do
-  magic ← number_at short 4 bytes 0
-  if not (magic.0 == 0xCAFEBABE) then Err faults.BadMagic else (do
-    minor ← number_at short 2 bytes magic.1
-    major ← number_at short 2 bytes minor.1
-    if (major.0 == 53) || (major.0 == 54) then Ok major.1 else Err faults.BadVersion)
+  version ← framing.front_at short faults.BadMagic (λ major minor. faults.BadVersion) bytes 0
+  Ok version.1
 
 -- a number that a module declaration has as 0
 unfoldable pub zero_at : List ℕ → List ℕ → ℕ → Result ℕ InfoFault
@@ -169,63 +174,81 @@ main_at pool bytes at = name_at class_named pool bytes at >>= ended bytes
 
 -- ---- attributes
 
--- a length in four bytes, and the end of that many bytes
-unfoldable pub content_end : List ℕ → ℕ → Result (ℕ × ℕ) InfoFault
-content_end bytes at = do
-  len ← number_at short 4 bytes at
-  if nat_lt (length bytes) (len.1 + len.0) then Err (faults.Short len.1) else Ok (len.1, len.1 + len.0)
+-- the form of the attributes of a name, where they are read
+abbrev pub form_of : List ℕ → Option Form
+form_of name =
+    if is_text name (codes "Module") then Some forms.Module
+    else if is_text name (codes "ModulePackages") then Some forms.Packages
+    else if is_text name (codes "ModuleMainClass") then Some forms.MainClass
+    else None
 
--- the content of an attribute, behind its name
-unfoldable pub content_at : {A : Type 0} → (List ℕ → ℕ → Result A InfoFault) → List ℕ → ℕ → Result (A × ℕ) InfoFault
-content_at one bytes at = do
-  content ← content_end bytes at
-  x ← one (take content.1 bytes) content.0
-  Ok (x, content.1)
+-- the name of the attributes of a form
+abbrev pub form_name : Form → List ℕ
+form_name forms.Module = codes "Module"
+form_name forms.Packages = codes "ModulePackages"
+form_name forms.MainClass = codes "ModuleMainClass"
 
--- an attribute of a name that may stand once
-abbrev pub once : {A B : Type 0} → List ℕ → Option A → Result B InfoFault → Result B InfoFault
-once name None x = x
-once name (Some a) x = Err (faults.Repeated (codes "attributes") name)
+abbrev pub is_form : Form → Form → Bool
+is_form forms.Module forms.Module = true
+is_form forms.Packages forms.Packages = true
+is_form forms.MainClass forms.MainClass = true
+is_form _ _ = false
 
-abbrev pub unread : Attributes
-unread = record { «module» = None; packages = None; main = None }
+-- the form of the attribute that means this
+abbrev pub part_form : Part → Form
+part_form (parts.Module m) = forms.Module
+part_form (parts.Packages packages) = forms.Packages
+part_form (parts.MainClass class) = forms.MainClass
 
-unfoldable pub with_module : List Entry → List ℕ → Attributes → ℕ → Result (Attributes × ℕ) InfoFault
-with_module pool bytes done at = do
-  m ← content_at (module_at pool) bytes at
-  Ok (record done { «module» = Some m.0 }, m.1)
+-- what the content of an attribute means
+abbrev pub part_at : List Entry → Form → List ℕ → ℕ → Result Part InfoFault
+part_at pool forms.Module bytes at = module_at pool bytes at >>= λ m. Ok (parts.Module m)
+part_at pool forms.Packages bytes at = packages_at pool bytes at >>= λ packages. Ok (parts.Packages packages)
+part_at pool forms.MainClass bytes at = main_at pool bytes at >>= λ class. Ok (parts.MainClass class)
 
-unfoldable pub with_packages : List Entry → List ℕ → Attributes → ℕ → Result (Attributes × ℕ) InfoFault
-with_packages pool bytes done at = do
-  ps ← content_at (packages_at pool) bytes at
-  Ok (record done { packages = Some ps.0 }, ps.1)
+-- no attribute of the form was read
+abbrev pub is_first : List Part → Form → Bool
+is_first done form = not (list_any (λ part. is_form form (part_form part)) done)
 
-unfoldable pub with_main : List Entry → List ℕ → Attributes → ℕ → Result (Attributes × ℕ) InfoFault
-with_main pool bytes done at = do
-  c ← content_at (main_at pool) bytes at
-  Ok (record done { main = Some c.0 }, c.1)
+-- how the attributes are read: at most one of each form, and others are passed over
+abbrev pub reader_of : List Entry → Reader Form Part InfoFault
+reader_of pool = record {
+  form = form_of;
+  may_stand = is_first;
+  unnamed = λ at. faults.BadIndex at;
+  refused = λ at form. faults.Repeated (codes "attributes") (form_name form);
+  cut = λ at place. faults.Short place;
+  meaning = λ form at bytes place. part_at pool form bytes place;
+}
 
--- an attribute of another name is passed over by its length
-unfoldable pub passed_over : List ℕ → Attributes → ℕ → Result (Attributes × ℕ) InfoFault
-passed_over bytes done at = do
-  content ← content_end bytes at
-  Ok (done, content.1)
+abbrev pub module_in : Part → Option Module
+module_in (parts.Module m) = Some m
+module_in _ = None
 
--- an attribute, behind those that were read so far
-unfoldable pub attribute_at : List Entry → List ℕ → Attributes → ℕ → Result (Attributes × ℕ) InfoFault
-attribute_at pool bytes done at = do
-  i ← number_at short 2 bytes at
-  name ← named_or at (text_of pool i.0)
-  if is_text name (codes "Module") then once name done.«module» (with_module pool bytes done i.1)
-      else if is_text name (codes "ModulePackages") then once name done.packages (with_packages pool bytes done i.1)
-      else if is_text name (codes "ModuleMainClass") then once name done.main (with_main pool bytes done i.1)
-      else passed_over bytes done i.1
+abbrev pub packages_in : Part → Option (List (List ℕ))
+packages_in (parts.Packages packages) = Some packages
+packages_in _ = None
+
+abbrev pub main_in : Part → Option (List ℕ)
+main_in (parts.MainClass class) = Some class
+main_in _ = None
+
+-- what the attributes declare together
+abbrev pub attributes_in : List Part → Attributes
+attributes_in read = record { «module» = first_that module_in read; packages = first_that packages_in read; main = first_that main_in read }
+
+-- an attribute before others
+abbrev pub before : Part → Attributes → Attributes
+before (parts.Module m) behind = record behind { «module» = Some m }
+before (parts.Packages packages) behind = record behind { packages = Some packages }
+before (parts.MainClass class) behind = record behind { main = Some class }
 
 -- the attributes whose count stands at a place
 unfoldable pub attributes_at : List Entry → List ℕ → ℕ → Result (Attributes × ℕ) InfoFault
 attributes_at pool bytes at = do
   count ← number_at short 2 bytes at
-  steps_at (attribute_at pool bytes) count.0 unread count.1
+  read ← framing_attributes.attributes_at (reader_of pool) pool count.0 bytes count.1
+  Ok (attributes_in read.0, read.1)
 
 -- ---- the whole file
 

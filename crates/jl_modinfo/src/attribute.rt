@@ -1,27 +1,158 @@
 //! The attributes of a declaration file (JVMS 4.7).
 
 ghost use Rattle.std.specs.Prelude.{◌≡◌, ◌≤◌, length, IfOk};
+ghost use Rattle.std.specs.List.{list_any};
 ghost use Rattle.jl_logic.specs.Answers.{Gives};
-ghost use Rattle.jl_reading.specs.Reading.{steps_at};
 ghost use Rattle.jl_modinfo.specs.Faults.{told};
-ghost use Rattle.jl_modinfo.specs.Reading.{content_end, attribute_at, attributes_at, once, unread};
+ghost use Rattle.jl_modinfo.specs.Reading.{form_name, is_form, part_form, attributes_at, attributes_in};
 ghost use Rattle.jl_modinfo.specs.Reading as reading;
 
-use crate::fault::{InfoFault, repeated};
+use crate::fault::{InfoFault, repetition};
 use crate::kind::Kind;
 use crate::module::{Module, module_of};
 use crate::names::{name_at, names_at};
+use jl_classfile::{AttributeReader, Place};
 use jl_pool::Pool;
 use jl_prim::{Copied, Items, Name};
-use jl_reading::{is_whole, u16_at, u32_at};
+use jl_reading::u16_at;
 use std::alloc::Global;
 
-/// What the attributes declare that were read so far.
+/// The attributes of a declaration file that are read.
+#[derive(Clone, Copy, Debug, PartialEq, Eq)]
+pub enum Form {
+    /// JVMS 4.7.25.
+    Module,
+    /// JVMS 4.7.26.
+    Packages,
+    /// JVMS 4.7.27.
+    MainClass,
+}
+
+/// What one of them means.
+#[derive(Debug, Drop)]
+pub enum Part {
+    Module(Module),
+    Packages(Items<Name>),
+    MainClass(Name),
+}
+
+/// What the attributes declare together.
 #[derive(Debug, Drop)]
 pub struct Attributes {
     pub module: Option<Module>,
     pub packages: Option<Items<Name>>,
     pub main: Option<Name>,
+}
+
+/// What reads the attributes of a file with this pool.
+#[derive(Clone, Copy)]
+struct InfoReader<'a> {
+    pool: &'a Pool,
+}
+
+impl Form {
+    fn name(self) -> &'static str
+        ensures { result.now ≡ form_name self }
+    {
+        match self {
+            Form::Module => "Module",
+            Form::Packages => "ModulePackages",
+            Form::MainClass => "ModuleMainClass",
+        }
+    }
+
+    fn is(self, other: Form) -> bool
+        ensures { result ≡ is_form self other }
+    {
+        matches!(
+            (self, other),
+            (Form::Module, Form::Module)
+                | (Form::Packages, Form::Packages)
+                | (Form::MainClass, Form::MainClass)
+        )
+    }
+}
+
+impl Part {
+    fn form(&self) -> Form
+        ensures { result ≡ part_form self.now }
+    {
+        match self {
+            Part::Module(_) => Form::Module,
+            Part::Packages(_) => Form::Packages,
+            Part::MainClass(_) => Form::MainClass,
+        }
+    }
+}
+
+impl<'a> AttributeReader<Form, Part, InfoFault> for InfoReader<'a> {
+    ghost use Rattle.jl_modinfo.specs.Reading.{reader_of};
+
+    ghost reader = { λ it. reader_of it.pool.now };
+
+    fn form(&self, name: &Name) -> Option<Form> {
+        let name = name.as_str();
+        if name == "Module" {
+            Some(Form::Module)
+        } else if name == "ModulePackages" {
+            Some(Form::Packages)
+        } else if name == "ModuleMainClass" {
+            Some(Form::MainClass)
+        } else {
+            None
+        }
+    }
+
+    fn may_stand(&self, done: &[Part], form: Form) -> bool {
+        !has_form(done, form)
+    }
+
+    fn unnamed(&self, place: usize) -> InfoFault {
+        InfoFault::BadIndex(place)
+    }
+
+    fn refused(&self, alloc: Global, _place: usize, form: Form) -> InfoFault {
+        repetition(alloc, "attributes", form.name())
+    }
+
+    fn cut(&self, _place: usize, at: usize) -> InfoFault {
+        InfoFault::Short(at)
+    }
+
+    fn no_memory(&self) -> InfoFault {
+        InfoFault::NoMemory
+    }
+
+    fn meaning(
+        &self,
+        alloc: Global,
+        form: Form,
+        _place: usize,
+        content: Place<'_>,
+    ) -> Result<Part, InfoFault> {
+        match form {
+            Form::Module => Ok(Part::Module(module_of(
+                alloc,
+                self.pool,
+                content.bytes,
+                content.at,
+            )?)),
+            Form::Packages => Ok(Part::Packages(packages_of(
+                alloc,
+                self.pool,
+                content.bytes,
+                content.at,
+            )?)),
+            Form::MainClass => Ok(Part::MainClass(main_of(self.pool, content.bytes, content.at)?)),
+        }
+    }
+}
+
+/// Whether an attribute of the form was read.
+fn has_form(done: &[Part], form: Form) -> bool
+    ensures { result ≡ list_any (λ part. is_form form (part_form part)) done.now }
+{
+    done.iter().any(|part| form.is(part.form()))
 }
 
 /// What the attributes declare whose count stands at a place, and the place after them.
@@ -36,141 +167,39 @@ pub fn attributes_of(
     ensures { Gives told (λ x. x) result (attributes_at pool.now bytes.now at) }
 {
     let (count, at) = u16_at::<InfoFault>(bytes, at)?;
-    each_attribute(alloc, pool, count, bytes, at)
+    let reader = InfoReader { pool };
+    let place = Place { bytes, at };
+    let (read, next) = jl_classfile::attributes_at(alloc, &reader, pool, count, place)?;
+    Ok((together(read), next.at))
 }
 
-fn each_attribute(
-    alloc: Global,
-    pool: &Pool,
-    count: u16,
-    bytes: &[u8],
-    at: usize,
-) -> Result<(Attributes, usize), InfoFault>
-    requires { at ≤ length bytes.now }
-    ensures { Gives told (λ x. x) result (steps_at (attribute_at pool.now bytes.now) count unread at) }
+/// What attributes declare together. Of a form that stood twice the first would count.
+fn together(read: Vec<Part>) -> Attributes
+    ensures { result ≡ attributes_in read.items }
 {
-    let mut done = Attributes {
+    let mut rest = read;
+    let mut behind = Attributes {
         module: None,
         packages: None,
         main: None,
     };
-    let mut next = at;
-    for _ in 0..count {
-        let (read, after) = attribute(alloc, pool, bytes, done, next)?;
-        done = read;
-        next = after;
+    while let Some(part) = rest.pop() {
+        behind = before(part, behind);
     }
-    Ok((done, next))
+    behind
 }
 
-/// The attribute at a place, behind those that were read so far.
-#[tactic(auto, unfolding(crate::specs::Reading::attribute_at))]
-fn attribute(
-    alloc: Global,
-    pool: &Pool,
-    bytes: &[u8],
-    done: Attributes,
-    at: usize,
-) -> Result<(Attributes, usize), InfoFault>
-    requires { at ≤ length bytes.now }
-    ensures exact { Gives told (λ x. x) result (attribute_at pool.now bytes.now done at) }
-    ensures within { IfOk result (λ x. x.1 ≤ length bytes.now) }
+/// What an attribute declares before others.
+fn before(part: Part, behind: Attributes) -> Attributes
+    ensures { result ≡ reading.before part behind }
 {
-    let (index, next) = u16_at::<InfoFault>(bytes, at)?;
-    let Some(name) = pool.text(index) else {
-        return Err(InfoFault::BadIndex(at));
-    };
-    let name = name.as_str();
-    if name == "Module" {
-        return first_module(alloc, pool, name, bytes, done, next);
+    let mut all = behind;
+    match part {
+        Part::Module(module) => all.module = Some(module),
+        Part::Packages(packages) => all.packages = Some(packages),
+        Part::MainClass(class) => all.main = Some(class),
     }
-    if name == "ModulePackages" {
-        return first_packages(alloc, pool, name, bytes, done, next);
-    }
-    if name == "ModuleMainClass" {
-        return first_main(alloc, pool, name, bytes, done, next);
-    }
-    passed_over(bytes, done, next)
-}
-
-/// The Module attribute, of which there is one at most.
-#[tactic(auto, using(crate::proofs::OnceLaws::once_some, crate::proofs::OnceLaws::once_none), unfolding(crate::specs::Reading::with_module, crate::specs::Reading::content_at))]
-fn first_module(
-    alloc: Global,
-    pool: &Pool,
-    name: &str,
-    bytes: &[u8],
-    done: Attributes,
-    at: usize,
-) -> Result<(Attributes, usize), InfoFault>
-    requires { at ≤ length bytes.now }
-    ensures exact { Gives told (λ x. x) result (once name.now done.«module» (reading.with_module pool.now bytes.now done at)) }
-    ensures within { IfOk result (λ x. x.1 ≤ length bytes.now) }
-{
-    if done.module.is_some() {
-        return repeated(alloc, "attributes", name);
-    }
-    let (start, end) = content(bytes, at)?;
-    let mut read = done;
-    read.module = Some(module_of(alloc, pool, &bytes[..end], start)?);
-    Ok((read, end))
-}
-
-/// The ModulePackages attribute (JVMS 4.7.26), of which there is one at most.
-#[tactic(auto, using(crate::proofs::OnceLaws::once_some, crate::proofs::OnceLaws::once_none), unfolding(crate::specs::Reading::with_packages, crate::specs::Reading::content_at))]
-fn first_packages(
-    alloc: Global,
-    pool: &Pool,
-    name: &str,
-    bytes: &[u8],
-    done: Attributes,
-    at: usize,
-) -> Result<(Attributes, usize), InfoFault>
-    requires { at ≤ length bytes.now }
-    ensures exact { Gives told (λ x. x) result (once name.now done.packages (reading.with_packages pool.now bytes.now done at)) }
-    ensures within { IfOk result (λ x. x.1 ≤ length bytes.now) }
-{
-    if done.packages.is_some() {
-        return repeated(alloc, "attributes", name);
-    }
-    let (start, end) = content(bytes, at)?;
-    let mut read = done;
-    read.packages = Some(packages_of(alloc, pool, &bytes[..end], start)?);
-    Ok((read, end))
-}
-
-/// The ModuleMainClass attribute (JVMS 4.7.27), of which there is one at most.
-#[tactic(auto, using(crate::proofs::OnceLaws::once_some, crate::proofs::OnceLaws::once_none), unfolding(crate::specs::Reading::with_main, crate::specs::Reading::content_at))]
-fn first_main(
-    alloc: Global,
-    pool: &Pool,
-    name: &str,
-    bytes: &[u8],
-    done: Attributes,
-    at: usize,
-) -> Result<(Attributes, usize), InfoFault>
-    requires { at ≤ length bytes.now }
-    ensures exact { Gives told (λ x. x) result (once name.now done.main (reading.with_main pool.now bytes.now done at)) }
-    ensures within { IfOk result (λ x. x.1 ≤ length bytes.now) }
-{
-    if done.main.is_some() {
-        return repeated(alloc, "attributes", name);
-    }
-    let (start, end) = content(bytes, at)?;
-    let mut read = done;
-    read.main = Some(main_of(pool, &bytes[..end], start)?);
-    Ok((read, end))
-}
-
-/// The attributes are as before where one of another name is passed over.
-#[tactic(auto, unfolding(crate::specs::Reading::passed_over))]
-fn passed_over(bytes: &[u8], done: Attributes, at: usize) -> Result<(Attributes, usize), InfoFault>
-    requires { at ≤ length bytes.now }
-    ensures exact { Gives told (λ x. x) result (reading.passed_over bytes.now done at) }
-    ensures within { IfOk result (λ x. x.1 ≤ length bytes.now) }
-{
-    let (_start, end) = content(bytes, at)?;
-    Ok((done, end))
+    all
 }
 
 /// The packages that the bytes from a place on list, all of them.
@@ -202,20 +231,4 @@ fn main_of(pool: &Pool, bytes: &[u8], at: usize) -> Result<Name, InfoFault>
         return Err(InfoFault::Trailing);
     }
     Ok(name.copy()?)
-}
-
-/// Where the content of an attribute begins and ends whose length stands at a place.
-#[tactic(auto, unfolding(crate::specs::Reading::content_end))]
-fn content(bytes: &[u8], at: usize) -> Result<(usize, usize), InfoFault>
-    requires { at ≤ length bytes.now }
-    ensures exact { Gives told (λ x. x) result (content_end bytes.now at) }
-    ensures within { IfOk result (λ x. (x.0 ≤ x.1) × (x.1 ≤ length bytes.now)) }
-{
-    let (count, at) = u32_at::<InfoFault>(bytes, at)?;
-    let count = count as usize;
-    if is_whole(bytes, at, count) {
-        Ok((at, at + count))
-    } else {
-        Err(InfoFault::Short(at))
-    }
 }

@@ -2,10 +2,12 @@
 
 ghost use Rattle.std.specs.Prelude.{◌≡◌, Err};
 ghost use Rattle.jl_logic.specs.Answers.{Gives};
+ghost use Rattle.jl_classfile.specs.Attributes.{IsFault};
 ghost use Rattle.jl_modinfo.specs.declared.fault.InfoFault.TheVariants.{NotModule, Repeated, NoMemory};
 ghost use Rattle.jl_modinfo.specs.declared.fault.InfoWriteFault.TheVariants as writes;
 ghost use Rattle.jl_modinfo.specs.Faults.{told, of_pool};
 
+use jl_classfile::FileFault;
 use jl_pool::{PoolFault, PoolWriteFault};
 use jl_prim::{CopyEnd, Name, PushEnd};
 use jl_reading::Fault;
@@ -99,6 +101,22 @@ impl Fault for InfoFault {
     }
 }
 
+impl FileFault for InfoFault {
+    ghost use Rattle.jl_modinfo.specs.declared.fault.InfoFault.TheVariants as variants;
+
+    ghost magic = { variants.BadMagic };
+
+    ghost version = { λ major minor. variants.BadVersion };
+
+    fn magic() -> InfoFault {
+        InfoFault::BadMagic
+    }
+
+    fn version(_major: u16, _minor: u16) -> InfoFault {
+        InfoFault::BadVersion
+    }
+}
+
 impl From<AllocError> for InfoFault {
     ghost from_gives = { λ _ e. e ≡ NoMemory };
 
@@ -154,7 +172,15 @@ pub fn not_module<T>(alloc: Global, field: &str) -> Result<T, InfoFault>
 pub fn repeated<T>(alloc: Global, table: &str, name: &str) -> Result<T, InfoFault>
     ensures { Gives told (λ x. x) result (Err (Repeated table.now name.now)) }
 {
-    let table = Name::from_text(alloc, table)?;
-    let name = Name::from_text(alloc, name)?;
-    Err(InfoFault::Repeated(table, name))
+    Err(repetition(alloc, table, name))
+}
+
+/// Likewise, as the fault itself, which wants memory.
+pub fn repetition(alloc: Global, table: &str, name: &str) -> InfoFault
+    ensures { IsFault told result (Repeated table.now name.now) }
+{
+    match (Name::from_text(alloc, table), Name::from_text(alloc, name)) {
+        (Ok(table), Ok(name)) => InfoFault::Repeated(table, name),
+        _ => InfoFault::NoMemory,
+    }
 }

@@ -1,6 +1,6 @@
 //! The file up to its attributes: a class with no members (JVMS 4.1).
 
-ghost use Rattle.std.specs.Prelude.{◌≡◌, ◌≤◌, length, IfOk};
+ghost use Rattle.std.specs.Prelude.{◌≡◌, ◌≤◌, length, IfOk, IfErr, Some};
 ghost use Rattle.jl_logic.specs.Answers.{Gives};
 ghost use Rattle.jl_modinfo.specs.Meaning.{class_text as text_of_class, is_module_info as names_module_info};
 ghost use Rattle.jl_modinfo.specs.Reading.{front_at, zero_at, this_at, empty_class_at};
@@ -8,11 +8,10 @@ ghost use Rattle.jl_modinfo.specs.Faults.{told};
 
 use crate::fault::{InfoFault, not_module};
 use crate::meaning::class_text;
+use jl_classfile::{Place, front as framing_front};
 use jl_pool::Pool;
-use jl_reading::{u16_at, u32_at};
+use jl_reading::u16_at;
 use std::alloc::Global;
-
-const MAGIC: u32 = 0xcafe_babe;
 
 const MODULE_FLAGS: u16 = 0x8000;
 
@@ -20,19 +19,12 @@ const MODULE_FLAGS: u16 = 0x8000;
 #[tactic(auto, unfolding(crate::specs::Reading::front_at))]
 pub fn front(bytes: &[u8]) -> Result<usize, InfoFault>
     ensures exact { Gives told (λ at. at) result (front_at bytes.now) }
+    // Want of memory is no answer.
+    ensures fault { IfErr result (λ e. told e ≡ Some e) }
     ensures within { IfOk result (λ at. at ≤ length bytes.now) }
 {
-    let (magic, at) = u32_at::<InfoFault>(bytes, 0)?;
-    if magic != MAGIC {
-        return Err(InfoFault::BadMagic);
-    }
-    let (_minor, at) = u16_at::<InfoFault>(bytes, at)?;
-    let (major, at) = u16_at::<InfoFault>(bytes, at)?;
-    if major == 53 || major == 54 {
-        Ok(at)
-    } else {
-        Err(InfoFault::BadVersion)
-    }
+    let (_version, place) = framing_front::<InfoFault>(Place::start(bytes))?;
+    Ok(place.at)
 }
 
 /// The place after flags, class, super class and the counts of interfaces, fields and methods.
