@@ -39,6 +39,19 @@ pub fn edited(
     Ok(bytes)
 }
 
+/// The bytes after the edits of a line, one after the other, which stand between `;`: a place, how many bytes
+/// go there, and which come, `-` for none.
+pub fn edited_in(alloc: Global, file: &[u8], edits: &str) -> Result<Vec<u8>, Fail> {
+    let mut bytes = Vec::from_slice(alloc, file)?;
+    for edit in edits.split(';') {
+        let (at, rest) = edit.trim().split_once(' ').ok_or("a place")?;
+        let (removed, put) = rest.split_once(' ').ok_or("a count")?;
+        let put = bytes_in(alloc, if put == "-" { "" } else { put })?;
+        bytes = edited(alloc, &bytes, at.parse()?, removed.parse()?, &put)?;
+    }
+    Ok(bytes)
+}
+
 fn push_word(bytes: &mut Vec<u8>, word: &str) -> Result<(), Fail> {
     if let Some(text) = word.strip_prefix('\'') {
         bytes.extend_from_slice(text.as_bytes())?;

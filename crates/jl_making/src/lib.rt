@@ -6,6 +6,6 @@ mod declarations;
 mod names;
 mod trees;
 
-pub use bytes::{bytes_in, bytes_of_lines, edited};
+pub use bytes::{bytes_in, bytes_of_lines, edited, edited_in};
 pub use declarations::{declaration, file_of, module_file};
 pub use names::{names_in, words_in};

@@ -26,8 +26,3 @@ pub use law::files_keep_rules;
 pub use reading::read_info;
 pub use writable::is_writable;
 pub use writing::write_info;
-
-#[cfg(test)]
-mod tests;
-#[cfg(test)]
-mod writing_tests;

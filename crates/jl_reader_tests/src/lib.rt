@@ -2,12 +2,12 @@
 #![tactic(auto)]
 
 #[cfg(test)]
-mod pool;
-#[cfg(test)]
-mod modinfo;
-#[cfg(test)]
 mod code;
 #[cfg(test)]
 mod frames;
 #[cfg(test)]
+mod modinfo;
+#[cfg(test)]
 mod names;
+#[cfg(test)]
+mod pool;
