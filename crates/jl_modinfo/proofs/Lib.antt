@@ -21,3 +21,4 @@ pub mod SizeLaws
 pub mod KeptLaws
 mod FilledRows
 pub mod PartLaws
+pub mod Longer

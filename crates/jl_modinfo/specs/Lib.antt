@@ -7,3 +7,4 @@ pub mod Info
 pub mod Writing
 pub mod Layout
 pub mod Kept
+pub mod Longer

@@ -22,7 +22,7 @@ mod writable;
 mod writing;
 
 pub use fault::{InfoFault, InfoWriteFault};
-pub use law::files_keep_rules;
+pub use law::{files_keep_rules, reads_longer};
 pub use reading::read_info;
 pub use writable::is_writable;
 pub use writing::write_info;

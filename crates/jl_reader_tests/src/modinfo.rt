@@ -1,7 +1,7 @@
 //! Tests of jl_modinfo.
 
 use jl_making::{bytes_of_lines, declaration, edited_in, file_of};
-use jl_modinfo::{files_keep_rules, is_writable, read_info, write_info};
+use jl_modinfo::{files_keep_rules, is_writable, read_info, reads_longer, write_info};
 use jl_prim::{Declaration, Name};
 use std::alloc::Global;
 use std::test::*;
@@ -51,6 +51,7 @@ fn all_come(alloc: Global, lines: &[&str], rows: &[&str]) -> Result<(), Fail> {
 #[test]
 fn cut_files(rt: HostRuntime) -> Result<(), Fail> {
     files_keep_rules();
+    reads_longer();
     let alloc = rt.alloc();
     let file = bytes_of_lines(alloc, &SMALLEST)?;
     let places = [

@@ -69,7 +69,7 @@ module _ {F : Type 0} (cut_at : F → Option ℕ) (Windows : Type 0) where
   cond_appends next start false f g a b = b
 
   -- what is read from a place behind another is read past that
-  past_fault : {p : ℕ} (f : F) (o : Option ℕ) → cut_at f ≡ o → ((q : ℕ) → cut_at f ≡ Some q → p < q) → MatchOption (cut_at f) ⊤ (λ q. p < q)
+  pub past_fault : {p : ℕ} (f : F) (o : Option ℕ) → cut_at f ≡ o → ((q : ℕ) → cut_at f ≡ Some q → p < q) → MatchOption (cut_at f) ⊤ (λ q. p < q)
   past_fault {p} f None e h = subst (λ (o : Option ℕ). MatchOption o ⊤ (λ q. p < q)) (sym e) tt
   past_fault {p} f (Some q) e h = subst (λ (o : Option ℕ). MatchOption o ⊤ (λ q. p < q)) (sym e) (h q e)
 
