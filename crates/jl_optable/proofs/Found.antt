@@ -1,40 +1,99 @@
--- The first row with an opcode in the whole table is the opcode's row.
-use Rattle.std.proofs.Common.{◌≡◌, ℕ, zero, suc, ◌+◌, ◌≤◌, ◌<◌, inl, inr, List, ◌∷◌, length, None, Some, Bool, true, false, cond, refl, sym, subst, ◌∙◌, arith}
-use Rattle.std.proofs.lemmas.Bool.{cases_order, eq-eqb, ne_eqb}
-use Rattle.jl_optable.specs.declared.form.Form.{Form}
-use Rattle.jl_optable.specs.Rows.{has_row, row_of, form_of, rows_from, first_with, table}
+-- The row of an opcode stands in the table at the opcode's place.
+use Rattle.std.proofs.Common.{◌≡◌, ℕ, zero, suc, ◌+◌, ◌-◌, ◌≤◌, ◌<◌, ◌&&◌, inl, inr, length, Option, None, Some, true, cond, refl, subst, arith}
+use Rattle.std.specs.Prelude.{slice_get, nat_le}
+use Rattle.std.proofs.lemmas.Bool.{le-leb, lt-leb, leb-true, leb-false, cond_both, and_parts, and_cases}
+use Rattle.jl_optable.specs.Rows.{has_row, row_of, form_of, rows_from, table, index_of}
 
--- a row with another opcode is passed by
-passes : (b : Bool) (from op : ℕ) (rows : List Form) → (from ≡ op → ⊥) → first_with op (cond b (row_of from ∷ rows) rows) ≡ first_with op rows
-unfolding first_with
-passes true from op rows other = rw (ne_eqb from op other) refl
-passes false from op rows other = refl
+-- the rows from an opcode on, where each has one
+at_index : (n from k : ℕ) → k < n → ((j : ℕ) → j ≤ k → has_row (from + j) ≡ true) → slice_get (rows_from n from) k ≡ Some (row_of (from + k))
+unfolding rows_from
+at_index zero from k lt all = absurd (omega arith)
+at_index (suc n) from zero lt all =
+    let e : from + 0 ≡ from = omega arith in
+    let here : has_row from ≡ true = subst (λ (m : ℕ). has_row m ≡ true) e (all 0 (omega arith)) in
+    rw (here, e) refl
+at_index (suc n) from (suc k) lt all =
+    let first : from + 0 ≡ from = omega arith in
+    let here : has_row from ≡ true = subst (λ (m : ℕ). has_row m ≡ true) first (all 0 (omega arith)) in
+    let later : (j : ℕ) → j ≤ k → has_row (from + 1 + j) ≡ true = λ j le. (let e : from + 1 + j ≡ from + suc j = omega arith in rw e (all (suc j) (omega arith))) in
+    let e : from + 1 + k ≡ from + suc k = omega arith in
+    rw here (subst (λ (m : ℕ). slice_get (rows_from n (from + 1)) k ≡ Some (row_of m)) e (at_index n (from + 1) k (omega arith) later))
 
--- no row from an opcode on has a lower one
-below : (n from op : ℕ) → op < from → first_with op (rows_from n from) ≡ None
-unfolding rows_from first_with
-below zero from op lt = refl
-below (suc n) from op lt = passes (has_row from) from op (rows_from n (from + 1)) (λ e. omega (arith, e)) ∙ below n (from + 1) op (omega arith)
+low : (op : ℕ) → op < 168 → has_row op ≡ true
+unfolding has_row
+low op lt = rw (le-leb op 200 (omega arith), lt-leb 168 op lt) refl
 
-here : (b : Bool) (op : ℕ) (rows : List Form) → first_with op rows ≡ None → first_with op (cond b (row_of op ∷ rows) rows) ≡ cond b (Some (row_of op)) None
-unfolding first_with
-here true op rows none = rw (eq-eqb op op refl) refl
-here false op rows none = none
+high : (op : ℕ) → 170 ≤ op → op ≤ 200 → has_row op ≡ true
+unfolding has_row
+high op ge le = rw (le-leb op 200 le, le-leb 168 op (omega arith), lt-leb op 169 (omega arith)) refl
 
-pub found_from : (n from op : ℕ) → from ≤ op → op < from + n → first_with op (rows_from n from) ≡ form_of op
-unfolding rows_from form_of
-found_from zero from op le lt = absurd (omega arith)
-found_from (suc n) from op le lt =
-    elim (cases_order from op) [
-      | inl same ↦ subst (λ (k : ℕ). first_with op (rows_from (suc n) k) ≡ form_of op) (sym same) (here (has_row op) op (rows_from n (op + 1)) (below n (op + 1) op (omega arith)))
-      | inr (inl less) ↦ passes (has_row from) from op (rows_from n (from + 1)) (λ e. omega (arith, e, less)) ∙ found_from n (from + 1) op (omega arith) (omega arith)
-      | inr (inr more) ↦ absurd (omega arith)
-    ]
+-- the two gaps are passed by
+at_gaps : (n k : ℕ) → k ≤ 30 → k + 3 ≤ n → slice_get (rows_from n 168) k ≡ Some (row_of (170 + k))
+unfolding rows_from has_row
+at_gaps zero k le lt = absurd (omega arith)
+at_gaps (suc zero) k le lt = absurd (omega arith)
+at_gaps (suc (suc n)) k le lt = at_index n 170 k (omega arith) (λ j h. high (170 + j) (omega arith) (omega arith))
 
-pub found_in_table : (op : ℕ) → op < 256 → first_with op table ≡ form_of op
+behind_gaps : (d n from k : ℕ) → from + d ≡ 168 → k ≤ 30 → d + k + 3 ≤ n → slice_get (rows_from n from) (d + k) ≡ Some (row_of (170 + k))
+unfolding rows_from
+behind_gaps zero n from k e le lt =
+    let here : from ≡ 168 = omega arith in
+    let there : 0 + k ≡ k = omega arith in
+    rw (here, there) (at_gaps n k le (omega arith))
+behind_gaps (suc d) zero from k e le lt = absurd (omega arith)
+behind_gaps (suc d) (suc n) from k e le lt =
+    let there : suc d + k ≡ suc (d + k) = omega arith in
+    rw (low from (omega arith), there) (behind_gaps d n (from + 1) k (omega arith) le (omega arith))
+
+has_form : (op : ℕ) → has_row op ≡ true → form_of op ≡ Some (row_of op)
+unfolding form_of
+has_form op h = rw h refl
+
+below_gaps : (op : ℕ) → op ≤ 167 → slice_get table op ≡ form_of op
 unfolding table
-found_in_table op lt = found_from 256 0 op (omega arith) lt
+below_gaps op le =
+    let e : 0 + op ≡ op = omega arith in
+    rw (has_form op (low op (omega arith))) (subst (λ (m : ℕ). slice_get (rows_from 256 0) op ≡ Some (row_of m)) e (at_index 256 0 op (omega arith) (λ j h. low (0 + j) (omega arith))))
+
+above_gaps : (op : ℕ) → 170 ≤ op → op ≤ 200 → slice_get table (op - 2) ≡ form_of op
+unfolding table
+above_gaps op ge le =
+    let k : ℕ = op - 170 in
+    let place : 168 + k ≡ op - 2 = omega arith in
+    let e : 170 + k ≡ op = omega arith in
+    rw (has_form op (high op ge le), ← place) (subst (λ (m : ℕ). slice_get (rows_from 256 0) (168 + k) ≡ Some (row_of m)) e (behind_gaps 168 256 0 k (omega arith) (omega arith) (omega arith)))
+
+in_gaps : (op : ℕ) → 168 ≤ op → op ≤ 169 → form_of op ≡ None
+unfolding form_of has_row
+in_gaps op ge le = rw (le-leb op 200 (omega arith), le-leb 168 op ge, le-leb op 169 le) refl
+
+past_all : (op : ℕ) → 201 ≤ op → form_of op ≡ None
+unfolding form_of has_row
+past_all op ge = rw (lt-leb op 200 (omega arith)) refl
 
 pub table-length : length table ≡ 199
 unfolding table rows_from has_row
 table-length = refl
+
+abbrev IsFound : ℕ → Option ℕ → Type 0
+IsFound op None = form_of op ≡ None
+IsFound op (Some i) = slice_get table i ≡ form_of op
+
+all_found : (op : ℕ) → IsFound op (index_of op)
+all_found op =
+    cond_both (nat_le op 167) (Some op) (cond (nat_le 170 op && nat_le op 200) (Some (op - 2)) None) (IsFound op)
+    (λ h. below_gaps op (leb-true op 167 h))
+    (λ h. cond_both (nat_le 170 op && nat_le op 200) (Some (op - 2)) None (IsFound op)
+    (λ g. let p = and_parts (nat_le 170 op) (nat_le op 200) g in above_gaps op (leb-true 170 op p.0) (leb-true op 200 p.1))
+    (λ g. elim (and_cases (nat_le 170 op) (nat_le op 200) g) [
+      | inl less ↦ in_gaps op (omega (arith, leb-false op 167 h)) (omega (arith, leb-false 170 op less))
+      | inr more ↦ past_all op (omega (arith, leb-false op 200 more))
+    ]))
+
+-- the row at an opcode's place is its row
+pub found : (op i : ℕ) → index_of op ≡ Some i → slice_get table i ≡ form_of op
+found op i e = subst (IsFound op) e (all_found op)
+
+-- an opcode without a place has no row
+pub not_found : (op : ℕ) → index_of op ≡ None → form_of op ≡ None
+not_found op e = subst (IsFound op) e (all_found op)

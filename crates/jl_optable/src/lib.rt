@@ -2,6 +2,8 @@
 #![tactic(auto)]
 
 mod form;
+mod macros;
+pub mod ops;
 mod table;
 
 pub use form::{Form, Operands};

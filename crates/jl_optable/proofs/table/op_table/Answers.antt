@@ -7,7 +7,7 @@ use Rattle.jl_optable.proofs.table.op_table.Goals as goal
 
 pub invariant_of-result : goal.invariant_of-result
 unfolding table rows_from form_of has_row is_stub operands_of
-invariant_of-result c = refl
+invariant_of-result c = (refl, refl)
 
 pub returns-clause-rows : goal.returns-clause-rows
 unfolding table rows_from form_of has_row is_stub operands_of
