@@ -1,10 +1,14 @@
 -- Worked rows of the definitions.
-use Rattle.std.proofs.Common.{◌≡◌, [], ◌∷◌, Ok, Err, Some, None, true, false, refl}
+use Rattle.std.proofs.Common.{◌≡◌, ℕ, List, Result, [], ◌∷◌, Ok, Err, Some, None, true, false, refl}
 use Rattle.std.specs.Prelude.{pos, negsuc}
 use Rattle.jl_reading.specs.Reading.{each_at}
 use Rattle.jl_names.specs.Descriptors.{descriptor_read, method_at, field_at, params_at, param_at, type_at, base_at, brackets, name_end, result_at}
+use Rattle.jl_prim.specs.declared.declaration.Handler.{Handler}
+use Rattle.jl_pool.specs.declared.entry.Entry.{Entry}
 use Rattle.jl_pool.specs.declared.entry.Entry.TheVariants as entries
 use Rattle.jl_optable.specs.Rows.{form_of, has_row, is_stub, operands_of}
+use Rattle.jl_code.specs.declared.fault.CodeFault.{CodeFault}
+use Rattle.jl_code.specs.declared.code.Code.{Code}
 use Rattle.jl_code.specs.declared.fault.CodeFault.TheVariants as faults
 use Rattle.jl_code.specs.declared.code.Arg.TheVariants as args
 use Rattle.jl_code.specs.declared.code.Code.TheVariants as codes
@@ -16,153 +20,166 @@ use Rattle.jl_code.specs.Places.{places_from, next_place, end_at, wide_end, tabl
 use Rattle.jl_code.specs.Walking.{walk_on}
 use Rattle.jl_code.specs.Decoding.{code_of, first_where}
 
-no_code : code_of ([]) (40 ∷ 41 ∷ 86 ∷ []) ([]) ([]) ≡ Err faults.Empty
+-- ()V
+abbrev to_void : List ℕ
+to_void = 40 ∷ 41 ∷ 86 ∷ []
+
+-- classes f and [[I, the method (J)V of a class and of an interface, the long 5, and a float
+abbrev some_pool : List Entry
+some_pool = entries.Unused ∷ entries.Utf8 (102 ∷ []) ∷ entries.Class 1 ∷ entries.Utf8 (40 ∷ 74 ∷ 41 ∷ 86 ∷ []) ∷ entries.NameAndType 1 3 ∷ entries.Method 2 4 ∷ entries.InterfaceMethod 2 4 ∷ entries.Utf8 (91 ∷ 91 ∷ 73 ∷ []) ∷ entries.Class 7 ∷ entries.Long 5 ∷ entries.Unused ∷ entries.Float 0 ∷ []
+
+-- decoding, with all of its words
+decoded : List Entry → List ℕ → List ℕ → List Handler → Result Code CodeFault
 unfolding code_of places_from next_place end_at wide_end table_end lookup_end walk_on instr_at form_of has_row is_stub operands_of plain_at wide_at wide_arg_at arg_at byte_at short_at local_at index_at interface_at dynamic_at multi_at branch_at inc_at wide_inc_at table_at case_at lookup_at lookup_case is_right_index makes_stub first_where each_at descriptor_read method_at field_at params_at param_at type_at base_at brackets name_end result_at
+decoded pool desc code handlers = code_of pool desc code handlers
+
+no_code : code_of [] to_void [] [] ≡ Err faults.Empty
+unfolding decoded
 no_code = refl
 
-two_instructions : code_of ([]) (40 ∷ 41 ∷ 86 ∷ []) (3 ∷ 176 ∷ []) ([]) ≡ Ok (codes.Instructions (record { at = 0; op = 3; wide = false; arg = args.Nothing } ∷ record { at = 1; op = 176; wide = false; arg = args.Nothing } ∷ []))
-unfolding code_of places_from next_place end_at wide_end table_end lookup_end walk_on instr_at form_of has_row is_stub operands_of plain_at wide_at wide_arg_at arg_at byte_at short_at local_at index_at interface_at dynamic_at multi_at branch_at inc_at wide_inc_at table_at case_at lookup_at lookup_case is_right_index makes_stub first_where each_at descriptor_read method_at field_at params_at param_at type_at base_at brackets name_end result_at
+two_instructions : code_of [] to_void (3 ∷ 176 ∷ []) [] ≡ Ok (codes.Instructions (record { at = 0; op = 3; wide = false; arg = args.Nothing } ∷ record { at = 1; op = 176; wide = false; arg = args.Nothing } ∷ []))
+unfolding decoded
 two_instructions = refl
 
-no_opcode : code_of ([]) (40 ∷ 41 ∷ 86 ∷ []) (168 ∷ []) ([]) ≡ Err (faults.UnknownOp 0)
-unfolding code_of places_from next_place end_at wide_end table_end lookup_end walk_on instr_at form_of has_row is_stub operands_of plain_at wide_at wide_arg_at arg_at byte_at short_at local_at index_at interface_at dynamic_at multi_at branch_at inc_at wide_inc_at table_at case_at lookup_at lookup_case is_right_index makes_stub first_where each_at descriptor_read method_at field_at params_at param_at type_at base_at brackets name_end result_at
+no_opcode : code_of [] to_void (168 ∷ []) [] ≡ Err (faults.UnknownOp 0)
+unfolding decoded
 no_opcode = refl
 
-a_cut_operand : code_of ([]) (40 ∷ 41 ∷ 86 ∷ []) (16 ∷ []) ([]) ≡ Err (faults.ShortOperand 0)
-unfolding code_of places_from next_place end_at wide_end table_end lookup_end walk_on instr_at form_of has_row is_stub operands_of plain_at wide_at wide_arg_at arg_at byte_at short_at local_at index_at interface_at dynamic_at multi_at branch_at inc_at wide_inc_at table_at case_at lookup_at lookup_case is_right_index makes_stub first_where each_at descriptor_read method_at field_at params_at param_at type_at base_at brackets name_end result_at
+a_cut_operand : code_of [] to_void (16 ∷ []) [] ≡ Err (faults.ShortOperand 0)
+unfolding decoded
 a_cut_operand = refl
 
-a_branch_past_the_end : code_of ([]) (40 ∷ 41 ∷ 86 ∷ []) (167 ∷ 0 ∷ 5 ∷ []) ([]) ≡ Err (faults.BadTarget 0)
-unfolding code_of places_from next_place end_at wide_end table_end lookup_end walk_on instr_at form_of has_row is_stub operands_of plain_at wide_at wide_arg_at arg_at byte_at short_at local_at index_at interface_at dynamic_at multi_at branch_at inc_at wide_inc_at table_at case_at lookup_at lookup_case is_right_index makes_stub first_where each_at descriptor_read method_at field_at params_at param_at type_at base_at brackets name_end result_at
+a_branch_past_the_end : code_of [] to_void (167 ∷ 0 ∷ 5 ∷ []) [] ≡ Err (faults.BadTarget 0)
+unfolding decoded
 a_branch_past_the_end = refl
 
-a_float : code_of ([]) (40 ∷ 41 ∷ 86 ∷ []) (11 ∷ 87 ∷ 177 ∷ []) ([]) ≡ Ok (codes.Stub (Some 11))
-unfolding code_of places_from next_place end_at wide_end table_end lookup_end walk_on instr_at form_of has_row is_stub operands_of plain_at wide_at wide_arg_at arg_at byte_at short_at local_at index_at interface_at dynamic_at multi_at branch_at inc_at wide_inc_at table_at case_at lookup_at lookup_case is_right_index makes_stub first_where each_at descriptor_read method_at field_at params_at param_at type_at base_at brackets name_end result_at
+a_float : code_of [] to_void (11 ∷ 87 ∷ 177 ∷ []) [] ≡ Ok (codes.Stub (Some 11))
+unfolding decoded
 a_float = refl
 
-a_fault_before_a_stub : code_of ([]) (40 ∷ 41 ∷ 86 ∷ []) (11 ∷ 16 ∷ []) ([]) ≡ Err (faults.ShortOperand 1)
-unfolding code_of places_from next_place end_at wide_end table_end lookup_end walk_on instr_at form_of has_row is_stub operands_of plain_at wide_at wide_arg_at arg_at byte_at short_at local_at index_at interface_at dynamic_at multi_at branch_at inc_at wide_inc_at table_at case_at lookup_at lookup_case is_right_index makes_stub first_where each_at descriptor_read method_at field_at params_at param_at type_at base_at brackets name_end result_at
+a_fault_before_a_stub : code_of [] to_void (11 ∷ 16 ∷ []) [] ≡ Err (faults.ShortOperand 1)
+unfolding decoded
 a_fault_before_a_stub = refl
 
-a_branch_back : code_of ([]) (40 ∷ 41 ∷ 86 ∷ []) (0 ∷ 167 ∷ 255 ∷ 255 ∷ []) ([]) ≡ Ok (codes.Instructions (record { at = 0; op = 0; wide = false; arg = args.Nothing } ∷ record { at = 1; op = 167; wide = false; arg = args.Target 0 } ∷ []))
-unfolding code_of places_from next_place end_at wide_end table_end lookup_end walk_on instr_at form_of has_row is_stub operands_of plain_at wide_at wide_arg_at arg_at byte_at short_at local_at index_at interface_at dynamic_at multi_at branch_at inc_at wide_inc_at table_at case_at lookup_at lookup_case is_right_index makes_stub first_where each_at descriptor_read method_at field_at params_at param_at type_at base_at brackets name_end result_at
+a_branch_back : code_of [] to_void (0 ∷ 167 ∷ 255 ∷ 255 ∷ []) [] ≡ Ok (codes.Instructions (record { at = 0; op = 0; wide = false; arg = args.Nothing } ∷ record { at = 1; op = 167; wide = false; arg = args.Target 0 } ∷ []))
+unfolding decoded
 a_branch_back = refl
 
 -- the places 1 and 2 are inside the instruction
-a_branch_into_an_instruction : code_of ([]) (40 ∷ 41 ∷ 86 ∷ []) (167 ∷ 0 ∷ 1 ∷ []) ([]) ≡ Err (faults.BadTarget 0)
-unfolding code_of places_from next_place end_at wide_end table_end lookup_end walk_on instr_at form_of has_row is_stub operands_of plain_at wide_at wide_arg_at arg_at byte_at short_at local_at index_at interface_at dynamic_at multi_at branch_at inc_at wide_inc_at table_at case_at lookup_at lookup_case is_right_index makes_stub first_where each_at descriptor_read method_at field_at params_at param_at type_at base_at brackets name_end result_at
+a_branch_into_an_instruction : code_of [] to_void (167 ∷ 0 ∷ 1 ∷ []) [] ≡ Err (faults.BadTarget 0)
+unfolding decoded
 a_branch_into_an_instruction = refl
 
-a_branch_before_a_later_fault : code_of ([]) (40 ∷ 41 ∷ 86 ∷ []) (167 ∷ 0 ∷ 4 ∷ 0 ∷ 168 ∷ []) ([]) ≡ Err (faults.BadTarget 0)
-unfolding code_of places_from next_place end_at wide_end table_end lookup_end walk_on instr_at form_of has_row is_stub operands_of plain_at wide_at wide_arg_at arg_at byte_at short_at local_at index_at interface_at dynamic_at multi_at branch_at inc_at wide_inc_at table_at case_at lookup_at lookup_case is_right_index makes_stub first_where each_at descriptor_read method_at field_at params_at param_at type_at base_at brackets name_end result_at
+a_branch_before_a_later_fault : code_of [] to_void (167 ∷ 0 ∷ 4 ∷ 0 ∷ 168 ∷ []) [] ≡ Err (faults.BadTarget 0)
+unfolding decoded
 a_branch_before_a_later_fault = refl
 
-a_branch_past_a_later_fault : code_of ([]) (40 ∷ 41 ∷ 86 ∷ []) (167 ∷ 0 ∷ 5 ∷ 18 ∷ 0 ∷ 177 ∷ []) ([]) ≡ Err (faults.BadIndex 3)
-unfolding code_of places_from next_place end_at wide_end table_end lookup_end walk_on instr_at form_of has_row is_stub operands_of plain_at wide_at wide_arg_at arg_at byte_at short_at local_at index_at interface_at dynamic_at multi_at branch_at inc_at wide_inc_at table_at case_at lookup_at lookup_case is_right_index makes_stub first_where each_at descriptor_read method_at field_at params_at param_at type_at base_at brackets name_end result_at
+a_branch_past_a_later_fault : code_of [] to_void (167 ∷ 0 ∷ 5 ∷ 18 ∷ 0 ∷ 177 ∷ []) [] ≡ Err (faults.BadIndex 3)
+unfolding decoded
 a_branch_past_a_later_fault = refl
 
-a_branch_past_a_later_branch : code_of ([]) (40 ∷ 41 ∷ 86 ∷ []) (167 ∷ 0 ∷ 6 ∷ 167 ∷ 0 ∷ 100 ∷ 177 ∷ []) ([]) ≡ Err (faults.BadTarget 3)
-unfolding code_of places_from next_place end_at wide_end table_end lookup_end walk_on instr_at form_of has_row is_stub operands_of plain_at wide_at wide_arg_at arg_at byte_at short_at local_at index_at interface_at dynamic_at multi_at branch_at inc_at wide_inc_at table_at case_at lookup_at lookup_case is_right_index makes_stub first_where each_at descriptor_read method_at field_at params_at param_at type_at base_at brackets name_end result_at
+a_branch_past_a_later_branch : code_of [] to_void (167 ∷ 0 ∷ 6 ∷ 167 ∷ 0 ∷ 100 ∷ 177 ∷ []) [] ≡ Err (faults.BadTarget 3)
+unfolding decoded
 a_branch_past_a_later_branch = refl
 
-a_branch_into_what_is_not_right : code_of ([]) (40 ∷ 41 ∷ 86 ∷ []) (167 ∷ 0 ∷ 4 ∷ 18 ∷ 0 ∷ 177 ∷ []) ([]) ≡ Err (faults.BadTarget 0)
-unfolding code_of places_from next_place end_at wide_end table_end lookup_end walk_on instr_at form_of has_row is_stub operands_of plain_at wide_at wide_arg_at arg_at byte_at short_at local_at index_at interface_at dynamic_at multi_at branch_at inc_at wide_inc_at table_at case_at lookup_at lookup_case is_right_index makes_stub first_where each_at descriptor_read method_at field_at params_at param_at type_at base_at brackets name_end result_at
+a_branch_into_what_is_not_right : code_of [] to_void (167 ∷ 0 ∷ 4 ∷ 18 ∷ 0 ∷ 177 ∷ []) [] ≡ Err (faults.BadTarget 0)
+unfolding decoded
 a_branch_into_what_is_not_right = refl
 
-a_signed_byte : code_of ([]) (40 ∷ 41 ∷ 86 ∷ []) (16 ∷ 255 ∷ []) ([]) ≡ Ok (codes.Instructions (record { at = 0; op = 16; wide = false; arg = args.Number (negsuc 0) } ∷ []))
-unfolding code_of places_from next_place end_at wide_end table_end lookup_end walk_on instr_at form_of has_row is_stub operands_of plain_at wide_at wide_arg_at arg_at byte_at short_at local_at index_at interface_at dynamic_at multi_at branch_at inc_at wide_inc_at table_at case_at lookup_at lookup_case is_right_index makes_stub first_where each_at descriptor_read method_at field_at params_at param_at type_at base_at brackets name_end result_at
+a_signed_byte : code_of [] to_void (16 ∷ 255 ∷ []) [] ≡ Ok (codes.Instructions (record { at = 0; op = 16; wide = false; arg = args.Number (negsuc 0) } ∷ []))
+unfolding decoded
 a_signed_byte = refl
 
-a_wide_local : code_of ([]) (40 ∷ 41 ∷ 86 ∷ []) (196 ∷ 21 ∷ 1 ∷ 2 ∷ []) ([]) ≡ Ok (codes.Instructions (record { at = 0; op = 21; wide = true; arg = args.Local 258 } ∷ []))
-unfolding code_of places_from next_place end_at wide_end table_end lookup_end walk_on instr_at form_of has_row is_stub operands_of plain_at wide_at wide_arg_at arg_at byte_at short_at local_at index_at interface_at dynamic_at multi_at branch_at inc_at wide_inc_at table_at case_at lookup_at lookup_case is_right_index makes_stub first_where each_at descriptor_read method_at field_at params_at param_at type_at base_at brackets name_end result_at
+a_wide_local : code_of [] to_void (196 ∷ 21 ∷ 1 ∷ 2 ∷ []) [] ≡ Ok (codes.Instructions (record { at = 0; op = 21; wide = true; arg = args.Local 258 } ∷ []))
+unfolding decoded
 a_wide_local = refl
 
-a_wide_inc : code_of ([]) (40 ∷ 41 ∷ 86 ∷ []) (196 ∷ 132 ∷ 0 ∷ 1 ∷ 255 ∷ 254 ∷ []) ([]) ≡ Ok (codes.Instructions (record { at = 0; op = 132; wide = true; arg = args.Inc 1 (negsuc 1) } ∷ []))
-unfolding code_of places_from next_place end_at wide_end table_end lookup_end walk_on instr_at form_of has_row is_stub operands_of plain_at wide_at wide_arg_at arg_at byte_at short_at local_at index_at interface_at dynamic_at multi_at branch_at inc_at wide_inc_at table_at case_at lookup_at lookup_case is_right_index makes_stub first_where each_at descriptor_read method_at field_at params_at param_at type_at base_at brackets name_end result_at
+a_wide_inc : code_of [] to_void (196 ∷ 132 ∷ 0 ∷ 1 ∷ 255 ∷ 254 ∷ []) [] ≡ Ok (codes.Instructions (record { at = 0; op = 132; wide = true; arg = args.Inc 1 (negsuc 1) } ∷ []))
+unfolding decoded
 a_wide_inc = refl
 
-wide_before_another : code_of ([]) (40 ∷ 41 ∷ 86 ∷ []) (196 ∷ 0 ∷ 0 ∷ 0 ∷ []) ([]) ≡ Err (faults.UnknownOp 0)
-unfolding code_of places_from next_place end_at wide_end table_end lookup_end walk_on instr_at form_of has_row is_stub operands_of plain_at wide_at wide_arg_at arg_at byte_at short_at local_at index_at interface_at dynamic_at multi_at branch_at inc_at wide_inc_at table_at case_at lookup_at lookup_case is_right_index makes_stub first_where each_at descriptor_read method_at field_at params_at param_at type_at base_at brackets name_end result_at
+wide_before_another : code_of [] to_void (196 ∷ 0 ∷ 0 ∷ 0 ∷ []) [] ≡ Err (faults.UnknownOp 0)
+unfolding decoded
 wide_before_another = refl
 
 -- the padding may be anything
-a_table : code_of ([]) (40 ∷ 41 ∷ 86 ∷ []) (170 ∷ 1 ∷ 2 ∷ 3 ∷ 0 ∷ 0 ∷ 0 ∷ 0 ∷ 0 ∷ 0 ∷ 0 ∷ 5 ∷ 0 ∷ 0 ∷ 0 ∷ 6 ∷ 0 ∷ 0 ∷ 0 ∷ 0 ∷ 0 ∷ 0 ∷ 0 ∷ 24 ∷ 0 ∷ []) ([]) ≡ Ok (codes.Instructions (record { at = 0; op = 170; wide = false; arg = args.Switch 0 ((pos 5, 0) ∷ (pos 6, 24) ∷ []) } ∷ record { at = 24; op = 0; wide = false; arg = args.Nothing } ∷ []))
-unfolding code_of places_from next_place end_at wide_end table_end lookup_end walk_on instr_at form_of has_row is_stub operands_of plain_at wide_at wide_arg_at arg_at byte_at short_at local_at index_at interface_at dynamic_at multi_at branch_at inc_at wide_inc_at table_at case_at lookup_at lookup_case is_right_index makes_stub first_where each_at descriptor_read method_at field_at params_at param_at type_at base_at brackets name_end result_at
+a_table : code_of [] to_void (170 ∷ 1 ∷ 2 ∷ 3 ∷ 0 ∷ 0 ∷ 0 ∷ 0 ∷ 0 ∷ 0 ∷ 0 ∷ 5 ∷ 0 ∷ 0 ∷ 0 ∷ 6 ∷ 0 ∷ 0 ∷ 0 ∷ 0 ∷ 0 ∷ 0 ∷ 0 ∷ 24 ∷ 0 ∷ []) [] ≡ Ok (codes.Instructions (record { at = 0; op = 170; wide = false; arg = args.Switch 0 ((pos 5, 0) ∷ (pos 6, 24) ∷ []) } ∷ record { at = 24; op = 0; wide = false; arg = args.Nothing } ∷ []))
+unfolding decoded
 a_table = refl
 
-a_falling_table : code_of ([]) (40 ∷ 41 ∷ 86 ∷ []) (170 ∷ 0 ∷ 0 ∷ 0 ∷ 0 ∷ 0 ∷ 0 ∷ 0 ∷ 0 ∷ 0 ∷ 0 ∷ 6 ∷ 0 ∷ 0 ∷ 0 ∷ 5 ∷ []) ([]) ≡ Err (faults.BadTarget 0)
-unfolding code_of places_from next_place end_at wide_end table_end lookup_end walk_on instr_at form_of has_row is_stub operands_of plain_at wide_at wide_arg_at arg_at byte_at short_at local_at index_at interface_at dynamic_at multi_at branch_at inc_at wide_inc_at table_at case_at lookup_at lookup_case is_right_index makes_stub first_where each_at descriptor_read method_at field_at params_at param_at type_at base_at brackets name_end result_at
+a_falling_table : code_of [] to_void (170 ∷ 0 ∷ 0 ∷ 0 ∷ 0 ∷ 0 ∷ 0 ∷ 0 ∷ 0 ∷ 0 ∷ 0 ∷ 6 ∷ 0 ∷ 0 ∷ 0 ∷ 5 ∷ []) [] ≡ Err (faults.BadTarget 0)
+unfolding decoded
 a_falling_table = refl
 
 -- a table that is not whole comes before a wrong offset
-a_cut_table : code_of ([]) (40 ∷ 41 ∷ 86 ∷ []) (170 ∷ 0 ∷ 0 ∷ 0 ∷ 0 ∷ 0 ∷ 0 ∷ 99 ∷ 0 ∷ 0 ∷ 0 ∷ 5 ∷ 0 ∷ 0 ∷ 0 ∷ 5 ∷ []) ([]) ≡ Err (faults.ShortOperand 0)
-unfolding code_of places_from next_place end_at wide_end table_end lookup_end walk_on instr_at form_of has_row is_stub operands_of plain_at wide_at wide_arg_at arg_at byte_at short_at local_at index_at interface_at dynamic_at multi_at branch_at inc_at wide_inc_at table_at case_at lookup_at lookup_case is_right_index makes_stub first_where each_at descriptor_read method_at field_at params_at param_at type_at base_at brackets name_end result_at
+a_cut_table : code_of [] to_void (170 ∷ 0 ∷ 0 ∷ 0 ∷ 0 ∷ 0 ∷ 0 ∷ 99 ∷ 0 ∷ 0 ∷ 0 ∷ 5 ∷ 0 ∷ 0 ∷ 0 ∷ 5 ∷ []) [] ≡ Err (faults.ShortOperand 0)
+unfolding decoded
 a_cut_table = refl
 
-a_lookup : code_of ([]) (40 ∷ 41 ∷ 86 ∷ []) (0 ∷ 171 ∷ 0 ∷ 0 ∷ 0 ∷ 0 ∷ 0 ∷ 19 ∷ 0 ∷ 0 ∷ 0 ∷ 1 ∷ 255 ∷ 255 ∷ 255 ∷ 255 ∷ 0 ∷ 0 ∷ 0 ∷ 0 ∷ 0 ∷ []) ([]) ≡ Ok (codes.Instructions (record { at = 0; op = 0; wide = false; arg = args.Nothing } ∷ record { at = 1; op = 171; wide = false; arg = args.Switch 20 ((negsuc 0, 1) ∷ []) } ∷ record { at = 20; op = 0; wide = false; arg = args.Nothing } ∷ []))
-unfolding code_of places_from next_place end_at wide_end table_end lookup_end walk_on instr_at form_of has_row is_stub operands_of plain_at wide_at wide_arg_at arg_at byte_at short_at local_at index_at interface_at dynamic_at multi_at branch_at inc_at wide_inc_at table_at case_at lookup_at lookup_case is_right_index makes_stub first_where each_at descriptor_read method_at field_at params_at param_at type_at base_at brackets name_end result_at
+a_lookup : code_of [] to_void (0 ∷ 171 ∷ 0 ∷ 0 ∷ 0 ∷ 0 ∷ 0 ∷ 19 ∷ 0 ∷ 0 ∷ 0 ∷ 1 ∷ 255 ∷ 255 ∷ 255 ∷ 255 ∷ 0 ∷ 0 ∷ 0 ∷ 0 ∷ 0 ∷ []) [] ≡ Ok (codes.Instructions (record { at = 0; op = 0; wide = false; arg = args.Nothing } ∷ record { at = 1; op = 171; wide = false; arg = args.Switch 20 ((negsuc 0, 1) ∷ []) } ∷ record { at = 20; op = 0; wide = false; arg = args.Nothing } ∷ []))
+unfolding decoded
 a_lookup = refl
 
-a_lookup_that_rises : code_of ([]) (40 ∷ 41 ∷ 86 ∷ []) (0 ∷ 0 ∷ 0 ∷ 171 ∷ 0 ∷ 0 ∷ 0 ∷ 0 ∷ 0 ∷ 0 ∷ 0 ∷ 2 ∷ 255 ∷ 255 ∷ 255 ∷ 255 ∷ 0 ∷ 0 ∷ 0 ∷ 0 ∷ 0 ∷ 0 ∷ 0 ∷ 7 ∷ 0 ∷ 0 ∷ 0 ∷ 0 ∷ []) ([]) ≡ Ok (codes.Instructions (record { at = 0; op = 0; wide = false; arg = args.Nothing } ∷ record { at = 1; op = 0; wide = false; arg = args.Nothing } ∷ record { at = 2; op = 0; wide = false; arg = args.Nothing } ∷ record { at = 3; op = 171; wide = false; arg = args.Switch 3 ((negsuc 0, 3) ∷ (pos 7, 3) ∷ []) } ∷ []))
-unfolding code_of places_from next_place end_at wide_end table_end lookup_end walk_on instr_at form_of has_row is_stub operands_of plain_at wide_at wide_arg_at arg_at byte_at short_at local_at index_at interface_at dynamic_at multi_at branch_at inc_at wide_inc_at table_at case_at lookup_at lookup_case is_right_index makes_stub first_where each_at descriptor_read method_at field_at params_at param_at type_at base_at brackets name_end result_at
+a_lookup_that_rises : code_of [] to_void (0 ∷ 0 ∷ 0 ∷ 171 ∷ 0 ∷ 0 ∷ 0 ∷ 0 ∷ 0 ∷ 0 ∷ 0 ∷ 2 ∷ 255 ∷ 255 ∷ 255 ∷ 255 ∷ 0 ∷ 0 ∷ 0 ∷ 0 ∷ 0 ∷ 0 ∷ 0 ∷ 7 ∷ 0 ∷ 0 ∷ 0 ∷ 0 ∷ []) [] ≡ Ok (codes.Instructions (record { at = 0; op = 0; wide = false; arg = args.Nothing } ∷ record { at = 1; op = 0; wide = false; arg = args.Nothing } ∷ record { at = 2; op = 0; wide = false; arg = args.Nothing } ∷ record { at = 3; op = 171; wide = false; arg = args.Switch 3 ((negsuc 0, 3) ∷ (pos 7, 3) ∷ []) } ∷ []))
+unfolding decoded
 a_lookup_that_rises = refl
 
-a_lookup_with_equal_keys : code_of ([]) (40 ∷ 41 ∷ 86 ∷ []) (0 ∷ 0 ∷ 0 ∷ 171 ∷ 0 ∷ 0 ∷ 0 ∷ 0 ∷ 0 ∷ 0 ∷ 0 ∷ 2 ∷ 0 ∷ 0 ∷ 0 ∷ 7 ∷ 0 ∷ 0 ∷ 0 ∷ 0 ∷ 0 ∷ 0 ∷ 0 ∷ 7 ∷ 0 ∷ 0 ∷ 0 ∷ 0 ∷ []) ([]) ≡ Err (faults.BadTarget 3)
-unfolding code_of places_from next_place end_at wide_end table_end lookup_end walk_on instr_at form_of has_row is_stub operands_of plain_at wide_at wide_arg_at arg_at byte_at short_at local_at index_at interface_at dynamic_at multi_at branch_at inc_at wide_inc_at table_at case_at lookup_at lookup_case is_right_index makes_stub first_where each_at descriptor_read method_at field_at params_at param_at type_at base_at brackets name_end result_at
+a_lookup_with_equal_keys : code_of [] to_void (0 ∷ 0 ∷ 0 ∷ 171 ∷ 0 ∷ 0 ∷ 0 ∷ 0 ∷ 0 ∷ 0 ∷ 0 ∷ 2 ∷ 0 ∷ 0 ∷ 0 ∷ 7 ∷ 0 ∷ 0 ∷ 0 ∷ 0 ∷ 0 ∷ 0 ∷ 0 ∷ 7 ∷ 0 ∷ 0 ∷ 0 ∷ 0 ∷ []) [] ≡ Err (faults.BadTarget 3)
+unfolding decoded
 a_lookup_with_equal_keys = refl
 
-a_lookup_with_a_negative_count : code_of ([]) (40 ∷ 41 ∷ 86 ∷ []) (0 ∷ 0 ∷ 0 ∷ 171 ∷ 0 ∷ 0 ∷ 0 ∷ 0 ∷ 255 ∷ 255 ∷ 255 ∷ 255 ∷ []) ([]) ≡ Err (faults.BadTarget 3)
-unfolding code_of places_from next_place end_at wide_end table_end lookup_end walk_on instr_at form_of has_row is_stub operands_of plain_at wide_at wide_arg_at arg_at byte_at short_at local_at index_at interface_at dynamic_at multi_at branch_at inc_at wide_inc_at table_at case_at lookup_at lookup_case is_right_index makes_stub first_where each_at descriptor_read method_at field_at params_at param_at type_at base_at brackets name_end result_at
+a_lookup_with_a_negative_count : code_of [] to_void (0 ∷ 0 ∷ 0 ∷ 171 ∷ 0 ∷ 0 ∷ 0 ∷ 0 ∷ 255 ∷ 255 ∷ 255 ∷ 255 ∷ []) [] ≡ Err (faults.BadTarget 3)
+unfolding decoded
 a_lookup_with_a_negative_count = refl
 
-a_float_array : code_of ([]) (40 ∷ 41 ∷ 86 ∷ []) (188 ∷ 6 ∷ []) ([]) ≡ Ok (codes.Stub (Some 188))
-unfolding code_of places_from next_place end_at wide_end table_end lookup_end walk_on instr_at form_of has_row is_stub operands_of plain_at wide_at wide_arg_at arg_at byte_at short_at local_at index_at interface_at dynamic_at multi_at branch_at inc_at wide_inc_at table_at case_at lookup_at lookup_case is_right_index makes_stub first_where each_at descriptor_read method_at field_at params_at param_at type_at base_at brackets name_end result_at
+a_float_array : code_of [] to_void (188 ∷ 6 ∷ []) [] ≡ Ok (codes.Stub (Some 188))
+unfolding decoded
 a_float_array = refl
 
-an_int_array : code_of ([]) (40 ∷ 41 ∷ 86 ∷ []) (188 ∷ 10 ∷ []) ([]) ≡ Ok (codes.Instructions (record { at = 0; op = 188; wide = false; arg = args.Number (pos 10) } ∷ []))
-unfolding code_of places_from next_place end_at wide_end table_end lookup_end walk_on instr_at form_of has_row is_stub operands_of plain_at wide_at wide_arg_at arg_at byte_at short_at local_at index_at interface_at dynamic_at multi_at branch_at inc_at wide_inc_at table_at case_at lookup_at lookup_case is_right_index makes_stub first_where each_at descriptor_read method_at field_at params_at param_at type_at base_at brackets name_end result_at
+an_int_array : code_of [] to_void (188 ∷ 10 ∷ []) [] ≡ Ok (codes.Instructions (record { at = 0; op = 188; wide = false; arg = args.Number (pos 10) } ∷ []))
+unfolding decoded
 an_int_array = refl
 
-no_array_type : code_of ([]) (40 ∷ 41 ∷ 86 ∷ []) (188 ∷ 3 ∷ []) ([]) ≡ Err (faults.BadIndex 0)
-unfolding code_of places_from next_place end_at wide_end table_end lookup_end walk_on instr_at form_of has_row is_stub operands_of plain_at wide_at wide_arg_at arg_at byte_at short_at local_at index_at interface_at dynamic_at multi_at branch_at inc_at wide_inc_at table_at case_at lookup_at lookup_case is_right_index makes_stub first_where each_at descriptor_read method_at field_at params_at param_at type_at base_at brackets name_end result_at
+no_array_type : code_of [] to_void (188 ∷ 3 ∷ []) [] ≡ Err (faults.BadIndex 0)
+unfolding decoded
 no_array_type = refl
 
-a_method_of_floats : code_of ([]) (40 ∷ 70 ∷ 41 ∷ 86 ∷ []) (0 ∷ []) ([]) ≡ Ok (codes.Stub None)
-unfolding code_of places_from next_place end_at wide_end table_end lookup_end walk_on instr_at form_of has_row is_stub operands_of plain_at wide_at wide_arg_at arg_at byte_at short_at local_at index_at interface_at dynamic_at multi_at branch_at inc_at wide_inc_at table_at case_at lookup_at lookup_case is_right_index makes_stub first_where each_at descriptor_read method_at field_at params_at param_at type_at base_at brackets name_end result_at
+a_method_of_floats : code_of [] (40 ∷ 70 ∷ 41 ∷ 86 ∷ []) (0 ∷ []) [] ≡ Ok (codes.Stub None)
+unfolding decoded
 a_method_of_floats = refl
 
-a_method_of_float_arrays : code_of ([]) (40 ∷ 91 ∷ 70 ∷ 41 ∷ 86 ∷ []) (0 ∷ []) ([]) ≡ Ok (codes.Instructions (record { at = 0; op = 0; wide = false; arg = args.Nothing } ∷ []))
-unfolding code_of places_from next_place end_at wide_end table_end lookup_end walk_on instr_at form_of has_row is_stub operands_of plain_at wide_at wide_arg_at arg_at byte_at short_at local_at index_at interface_at dynamic_at multi_at branch_at inc_at wide_inc_at table_at case_at lookup_at lookup_case is_right_index makes_stub first_where each_at descriptor_read method_at field_at params_at param_at type_at base_at brackets name_end result_at
+a_method_of_float_arrays : code_of [] (40 ∷ 91 ∷ 70 ∷ 41 ∷ 86 ∷ []) (0 ∷ []) [] ≡ Ok (codes.Instructions (record { at = 0; op = 0; wide = false; arg = args.Nothing } ∷ []))
+unfolding decoded
 a_method_of_float_arrays = refl
 
-no_method_descriptor : code_of ([]) (70 ∷ []) (0 ∷ []) ([]) ≡ Ok (codes.Instructions (record { at = 0; op = 0; wide = false; arg = args.Nothing } ∷ []))
-unfolding code_of places_from next_place end_at wide_end table_end lookup_end walk_on instr_at form_of has_row is_stub operands_of plain_at wide_at wide_arg_at arg_at byte_at short_at local_at index_at interface_at dynamic_at multi_at branch_at inc_at wide_inc_at table_at case_at lookup_at lookup_case is_right_index makes_stub first_where each_at descriptor_read method_at field_at params_at param_at type_at base_at brackets name_end result_at
+no_method_descriptor : code_of [] (70 ∷ []) (0 ∷ []) [] ≡ Ok (codes.Instructions (record { at = 0; op = 0; wide = false; arg = args.Nothing } ∷ []))
+unfolding decoded
 no_method_descriptor = refl
 
-a_long : code_of (entries.Unused ∷ entries.Utf8 (102 ∷ []) ∷ entries.Class 1 ∷ entries.Utf8 (40 ∷ 74 ∷ 41 ∷ 86 ∷ []) ∷ entries.NameAndType 1 3 ∷ entries.Method 2 4 ∷ entries.InterfaceMethod 2 4 ∷ entries.Utf8 (91 ∷ 91 ∷ 73 ∷ []) ∷ entries.Class 7 ∷ entries.Long 5 ∷ entries.Unused ∷ entries.Float 0 ∷ []) (40 ∷ 41 ∷ 86 ∷ []) (20 ∷ 0 ∷ 9 ∷ []) ([]) ≡ Ok (codes.Instructions (record { at = 0; op = 20; wide = false; arg = args.Long (pos 5) } ∷ []))
-unfolding code_of places_from next_place end_at wide_end table_end lookup_end walk_on instr_at form_of has_row is_stub operands_of plain_at wide_at wide_arg_at arg_at byte_at short_at local_at index_at interface_at dynamic_at multi_at branch_at inc_at wide_inc_at table_at case_at lookup_at lookup_case is_right_index makes_stub first_where each_at descriptor_read method_at field_at params_at param_at type_at base_at brackets name_end result_at
+a_long : code_of some_pool to_void (20 ∷ 0 ∷ 9 ∷ []) [] ≡ Ok (codes.Instructions (record { at = 0; op = 20; wide = false; arg = args.Long (pos 5) } ∷ []))
+unfolding decoded
 a_long = refl
 
-a_long_by_ldc : code_of (entries.Unused ∷ entries.Utf8 (102 ∷ []) ∷ entries.Class 1 ∷ entries.Utf8 (40 ∷ 74 ∷ 41 ∷ 86 ∷ []) ∷ entries.NameAndType 1 3 ∷ entries.Method 2 4 ∷ entries.InterfaceMethod 2 4 ∷ entries.Utf8 (91 ∷ 91 ∷ 73 ∷ []) ∷ entries.Class 7 ∷ entries.Long 5 ∷ entries.Unused ∷ entries.Float 0 ∷ []) (40 ∷ 41 ∷ 86 ∷ []) (18 ∷ 9 ∷ []) ([]) ≡ Err (faults.BadIndex 0)
-unfolding code_of places_from next_place end_at wide_end table_end lookup_end walk_on instr_at form_of has_row is_stub operands_of plain_at wide_at wide_arg_at arg_at byte_at short_at local_at index_at interface_at dynamic_at multi_at branch_at inc_at wide_inc_at table_at case_at lookup_at lookup_case is_right_index makes_stub first_where each_at descriptor_read method_at field_at params_at param_at type_at base_at brackets name_end result_at
+a_long_by_ldc : code_of some_pool to_void (18 ∷ 9 ∷ []) [] ≡ Err (faults.BadIndex 0)
+unfolding decoded
 a_long_by_ldc = refl
 
-a_float_constant : code_of (entries.Unused ∷ entries.Utf8 (102 ∷ []) ∷ entries.Class 1 ∷ entries.Utf8 (40 ∷ 74 ∷ 41 ∷ 86 ∷ []) ∷ entries.NameAndType 1 3 ∷ entries.Method 2 4 ∷ entries.InterfaceMethod 2 4 ∷ entries.Utf8 (91 ∷ 91 ∷ 73 ∷ []) ∷ entries.Class 7 ∷ entries.Long 5 ∷ entries.Unused ∷ entries.Float 0 ∷ []) (40 ∷ 41 ∷ 86 ∷ []) (18 ∷ 11 ∷ []) ([]) ≡ Ok (codes.Stub (Some 18))
-unfolding code_of places_from next_place end_at wide_end table_end lookup_end walk_on instr_at form_of has_row is_stub operands_of plain_at wide_at wide_arg_at arg_at byte_at short_at local_at index_at interface_at dynamic_at multi_at branch_at inc_at wide_inc_at table_at case_at lookup_at lookup_case is_right_index makes_stub first_where each_at descriptor_read method_at field_at params_at param_at type_at base_at brackets name_end result_at
+a_float_constant : code_of some_pool to_void (18 ∷ 11 ∷ []) [] ≡ Ok (codes.Stub (Some 18))
+unfolding decoded
 a_float_constant = refl
 
-a_handler : code_of ([]) (40 ∷ 41 ∷ 86 ∷ []) (0 ∷ 0 ∷ []) (record { start = 0; end = 2; target = 1; catch_type = 0 } ∷ []) ≡ Ok (codes.Instructions (record { at = 0; op = 0; wide = false; arg = args.Nothing } ∷ record { at = 1; op = 0; wide = false; arg = args.Nothing } ∷ []))
-unfolding code_of places_from next_place end_at wide_end table_end lookup_end walk_on instr_at form_of has_row is_stub operands_of plain_at wide_at wide_arg_at arg_at byte_at short_at local_at index_at interface_at dynamic_at multi_at branch_at inc_at wide_inc_at table_at case_at lookup_at lookup_case is_right_index makes_stub first_where each_at descriptor_read method_at field_at params_at param_at type_at base_at brackets name_end result_at
+a_handler : code_of [] to_void (0 ∷ 0 ∷ []) (record { start = 0; end = 2; target = 1; catch_type = 0 } ∷ []) ≡ Ok (codes.Instructions (record { at = 0; op = 0; wide = false; arg = args.Nothing } ∷ record { at = 1; op = 0; wide = false; arg = args.Nothing } ∷ []))
+unfolding decoded
 a_handler = refl
 
-an_empty_handler : code_of ([]) (40 ∷ 41 ∷ 86 ∷ []) (0 ∷ 0 ∷ []) (record { start = 0; end = 2; target = 1; catch_type = 0 } ∷ record { start = 1; end = 1; target = 1; catch_type = 0 } ∷ []) ≡ Err (faults.BadRange 1)
-unfolding code_of places_from next_place end_at wide_end table_end lookup_end walk_on instr_at form_of has_row is_stub operands_of plain_at wide_at wide_arg_at arg_at byte_at short_at local_at index_at interface_at dynamic_at multi_at branch_at inc_at wide_inc_at table_at case_at lookup_at lookup_case is_right_index makes_stub first_where each_at descriptor_read method_at field_at params_at param_at type_at base_at brackets name_end result_at
+an_empty_handler : code_of [] to_void (0 ∷ 0 ∷ []) (record { start = 0; end = 2; target = 1; catch_type = 0 } ∷ record { start = 1; end = 1; target = 1; catch_type = 0 } ∷ []) ≡ Err (faults.BadRange 1)
+unfolding decoded
 an_empty_handler = refl
 
-a_handler_of_no_class : code_of ([]) (40 ∷ 41 ∷ 86 ∷ []) (0 ∷ 0 ∷ []) (record { start = 0; end = 1; target = 1; catch_type = 1 } ∷ []) ≡ Err (faults.BadRange 0)
-unfolding code_of places_from next_place end_at wide_end table_end lookup_end walk_on instr_at form_of has_row is_stub operands_of plain_at wide_at wide_arg_at arg_at byte_at short_at local_at index_at interface_at dynamic_at multi_at branch_at inc_at wide_inc_at table_at case_at lookup_at lookup_case is_right_index makes_stub first_where each_at descriptor_read method_at field_at params_at param_at type_at base_at brackets name_end result_at
+a_handler_of_no_class : code_of [] to_void (0 ∷ 0 ∷ []) (record { start = 0; end = 1; target = 1; catch_type = 1 } ∷ []) ≡ Err (faults.BadRange 0)
+unfolding decoded
 a_handler_of_no_class = refl
 
-a_handler_before_a_stub : code_of ([]) (40 ∷ 41 ∷ 86 ∷ []) (11 ∷ []) (record { start = 0; end = 1; target = 1; catch_type = 0 } ∷ []) ≡ Err (faults.BadRange 0)
-unfolding code_of places_from next_place end_at wide_end table_end lookup_end walk_on instr_at form_of has_row is_stub operands_of plain_at wide_at wide_arg_at arg_at byte_at short_at local_at index_at interface_at dynamic_at multi_at branch_at inc_at wide_inc_at table_at case_at lookup_at lookup_case is_right_index makes_stub first_where each_at descriptor_read method_at field_at params_at param_at type_at base_at brackets name_end result_at
+a_handler_before_a_stub : code_of [] to_void (11 ∷ []) (record { start = 0; end = 1; target = 1; catch_type = 0 } ∷ []) ≡ Err (faults.BadRange 0)
+unfolding decoded
 a_handler_before_a_stub = refl

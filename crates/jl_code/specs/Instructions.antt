@@ -15,10 +15,11 @@ use Rattle.jl_code.specs.declared.code.Arg.TheVariants as args
 use Rattle.jl_code.specs.declared.code.Instr.{Instr}
 use Rattle.jl_code.specs.Operands.{operand_at, branch_at, inc_at, wide_inc_at, table_at, lookup_at}
 use Rattle.jl_code.specs.References.{has_tag, member_type, is_right_index, is_slot_count, is_array_of}
+use Rattle.jl_optable.specs.declared.ops.TheConstants as ops
 
 -- of newarray the byte is the type of an array: 4 to 11
 abbrev pub is_byte_for : ℕ → ℕ → Bool
-is_byte_for op n = not (op == 188) || is_within 4 11 n
+is_byte_for op n = not (op == ops.NEWARRAY) || is_within 4 11 n
 
 -- a signed byte
 unfoldable pub byte_at : ℕ → ℕ → List ℕ → ℕ → Result (Arg × ℕ) CodeFault
@@ -43,7 +44,7 @@ long_or_index i (Some value) = args.Long value
 long_or_index i None = args.Index i
 
 abbrev pub index_arg : List Entry → ℕ → ℕ → Arg
-index_arg pool op i = if op == 20 then long_or_index i (long_of pool i) else args.Index i
+index_arg pool op i = if op == ops.LDC2_W then long_or_index i (long_of pool i) else args.Index i
 
 abbrev pub named : List Entry → ℕ → ℕ → ℕ → ℕ → Result (Arg × ℕ) CodeFault
 named pool at op i next = if is_right_index pool op i then Ok (index_arg pool op i, next) else Err (faults.BadIndex at)
@@ -99,12 +100,12 @@ arg_at pool at op kinds.Wide code next = Ok (args.Nothing, next)
 
 -- loads and stores of a local, which wide gives two bytes
 abbrev pub names_local : ℕ → Bool
-names_local op = is_within 21 25 op || is_within 54 58 op
+names_local op = is_within ops.ILOAD ops.ALOAD op || is_within ops.ISTORE ops.ASTORE op
 
 -- the operands of a widened instruction
 unfoldable pub wide_arg_at : ℕ → ℕ → List ℕ → ℕ → Result (Arg × ℕ) CodeFault
 wide_arg_at at op code next =
-    if op == 132 then wide_inc_at at code next
+    if op == ops.IINC then wide_inc_at at code next
     else if names_local op then local_at at 2 code next
     else Err (faults.UnknownOp at)
 
@@ -122,7 +123,7 @@ plain_at pool at op operands code next = do
 
 abbrev pub form_at : List Entry → ℕ → Option Form → List ℕ → ℕ → Result (Instr × ℕ) CodeFault
 form_at pool at None code next = Err (faults.UnknownOp at)
-form_at pool at (Some form) code next = if form.op == 196 then wide_at at code next else plain_at pool at form.op form.operands code next
+form_at pool at (Some form) code next = if form.op == ops.WIDE then wide_at at code next else plain_at pool at form.op form.operands code next
 
 unfoldable pub instr_at : List Entry → List ℕ → ℕ → Result (Instr × ℕ) CodeFault
 instr_at pool code at = do

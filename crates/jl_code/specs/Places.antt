@@ -11,6 +11,7 @@ use Rattle.jl_code.specs.declared.fault.CodeFault.{CodeFault}
 use Rattle.jl_code.specs.declared.fault.CodeFault.TheVariants as faults
 use Rattle.jl_code.specs.Operands.{operand_at, padded, keys_between}
 use Rattle.jl_code.specs.Instructions.{names_local}
+use Rattle.jl_optable.specs.declared.ops.TheConstants as ops
 
 -- the place behind operands that are whole
 abbrev pub whole_to : ℕ → List ℕ → ℕ → Result ℕ CodeFault
@@ -33,7 +34,7 @@ lookup_end at code next = do
 unfoldable pub wide_end : ℕ → List ℕ → ℕ → Result ℕ CodeFault
 wide_end at code next = do
   op ← operand_at at 1 code next
-  if op.0 == 132 then whole_to at code (op.1 + 4)
+  if op.0 == ops.IINC then whole_to at code (op.1 + 4)
       else if names_local op.0 then whole_to at code (op.1 + 2)
       else Err (faults.UnknownOp at)
 

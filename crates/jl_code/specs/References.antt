@@ -11,6 +11,7 @@ use Rattle.jl_names.specs.declared.types.Descriptor.TheVariants.{Field, Method}
 use Rattle.jl_names.specs.Descriptors.{descriptor_read, slots, brackets}
 use Rattle.jl_pool.specs.declared.entry.Entry.{Entry}
 use Rattle.jl_pool.specs.Pool.{tag_of, text_of, paired_text, class_of, name_and_type_of, member_of}
+use Rattle.jl_optable.specs.declared.ops.TheConstants as ops
 
 abbrev pub has_tag : ℕ → Option ℕ → Bool
 has_tag tag None = false
@@ -101,7 +102,7 @@ begins_with_angle (b ∷ bs) = b == 60
 -- Of the names that begin with < only <init> is invoked, and only by invokespecial.
 abbrev pub may_invoke : ℕ → Option (List ℕ) → Bool
 may_invoke op None = false
-may_invoke op (Some name) = not (begins_with_angle name) || ((op == 183) && is_text name init)
+may_invoke op (Some name) = not (begins_with_angle name) || ((op == ops.INVOKESPECIAL) && is_text name init)
 
 -- the number of [ with which the name of a class begins
 abbrev pub brackets_or_none : Option (List ℕ) → Option ℕ
@@ -131,8 +132,8 @@ is_field pool i = has_tag 9 (member_tag pool i) && is_field_type (member_type po
 -- invokevirtual names a method of a class, invokeinterface one of an interface, and invokespecial and invokestatic either
 abbrev pub has_method_tag : ℕ → Option ℕ → Bool
 has_method_tag op tag =
-    if op == 182 then has_tag 10 tag
-    else if op == 185 then has_tag 11 tag
+    if op == ops.INVOKEVIRTUAL then has_tag 10 tag
+    else if op == ops.INVOKEINTERFACE then has_tag 11 tag
     else has_tag 10 tag || has_tag 11 tag
 
 abbrev pub is_method : List Entry → ℕ → ℕ → Bool
@@ -150,8 +151,8 @@ is_dims right (Some dims) = right dims
 -- new makes no array, anewarray an array of at most 255 dimensions, checkcast and instanceof take each class
 abbrev pub is_class_for : List Entry → ℕ → ℕ → Bool
 is_class_for pool op i =
-    if op == 187 then is_dims (λ dims. dims == 0) (class_dims pool i)
-    else if op == 189 then is_dims (λ dims. nat_lt dims 255) (class_dims pool i)
+    if op == ops.NEW then is_dims (λ dims. dims == 0) (class_dims pool i)
+    else if op == ops.ANEWARRAY then is_dims (λ dims. nat_lt dims 255) (class_dims pool i)
     else is_some (class_of pool i)
 
 -- multianewarray makes at least one dimension, and at most those of the class
@@ -161,8 +162,8 @@ is_array_of pool i count = is_dims (λ dims. nat_lt 0 count && nat_le count dims
 -- the index of an instruction whose only operand is one
 unfoldable pub is_right_index : List Entry → ℕ → ℕ → Bool
 is_right_index pool op i =
-    if op == 20 then is_loadable_wide pool i
-    else if nat_lt op 20 then is_loadable pool i
-    else if nat_le op 181 then is_field pool i
-    else if nat_le op 185 then is_method pool op i
+    if op == ops.LDC2_W then is_loadable_wide pool i
+    else if nat_lt op ops.LDC2_W then is_loadable pool i
+    else if nat_le op ops.PUTFIELD then is_field pool i
+    else if nat_le op ops.INVOKEINTERFACE then is_method pool op i
     else is_class_for pool op i

@@ -19,6 +19,7 @@ use Rattle.jl_code.specs.References.{has_tag, is_right_index, is_array_of}
 use Rattle.jl_code.specs.Instructions.{is_byte_for, index_arg, is_interface, names_local}
 use Rattle.jl_code.specs.Places.{stands}
 use Rattle.jl_code.specs.Decoding.{leads_right, is_right_handler, kind_of}
+use Rattle.jl_optable.specs.declared.ops.TheConstants as ops
 
 -- a number stands in k bytes
 pub record StandsNumber (code : List ℕ) (k at n next : ℕ) : Type 0 where
@@ -127,21 +128,21 @@ pub record IsPlain (pool : List Entry) (code : List ℕ) (at : ℕ) (i : Instr) 
   pub place : i.at ≡ at
   pub plain : i.wide ≡ false
   pub row : IsTrue (has_row i.op)
-  pub narrow : (i.op == 196) ≡ false
+  pub narrow : (i.op == ops.WIDE) ≡ false
   pub opcode : StandsNumber code 1 at i.op (at + 1)
   pub operands : ArgStands pool code at i.op (operands_of i.op) (at + 1) i.arg end
 
 -- iinc with a local and a number of two bytes, or a load or store with a local of two bytes
 abbrev pub WideArgStands : List ℕ → ℕ → ℕ → Arg → ℕ → Type 0
 WideArgStands code op next arg end =
-    (IsTrue (op == 132) × IsTwo code 2 2 (λ n m. true) (λ n m. args.Inc n (cast_signed w16 m)) next arg end)
-    ⊎ (IsTrue (not (op == 132) && names_local op) × IsOne code 2 (λ n. true) args.Local next arg end)
+    (IsTrue (op == ops.IINC) × IsTwo code 2 2 (λ n m. true) (λ n m. args.Inc n (cast_signed w16 m)) next arg end)
+    ⊎ (IsTrue (not (op == ops.IINC) && names_local op) × IsOne code 2 (λ n. true) args.Local next arg end)
 
 -- wide, the opcode that it widens, and the widened operands
 pub record IsWide (code : List ℕ) (at : ℕ) (i : Instr) (end : ℕ) : Type 0 where
   pub place : i.at ≡ at
   pub widened : i.wide ≡ true
-  pub prefix : StandsNumber code 1 at 196 (at + 1)
+  pub prefix : StandsNumber code 1 at ops.WIDE (at + 1)
   pub opcode : StandsNumber code 1 (at + 1) i.op (at + 1 + 1)
   pub operands : WideArgStands code i.op (at + 1 + 1) i.arg end
 

@@ -9,6 +9,7 @@ use Rattle.jl_code.specs.declared.code.Arg.{Arg}
 use Rattle.jl_code.specs.declared.code.Arg.TheVariants as args
 use Rattle.jl_code.specs.declared.code.Instr.{Instr}
 use Rattle.jl_code.specs.References.{has_tag, member_type, is_float_field, has_float}
+use Rattle.jl_optable.specs.declared.ops.TheConstants as ops
 
 -- Float, Double, MethodHandle, MethodType, Dynamic
 abbrev pub is_stub_constant : Option ℕ → Bool
@@ -17,9 +18,9 @@ is_stub_constant tag = list_any (λ t. has_tag t tag) (4 ∷ 6 ∷ 15 ∷ 16 ∷
 -- what an instruction names is a constant, a field or a method with which a stub is made
 abbrev pub names_stub : List Entry → ℕ → ℕ → Bool
 names_stub pool op i =
-    if is_within 18 20 op then is_stub_constant (tag_of pool i)
-    else if is_within 178 181 op then is_float_field (member_type pool i)
-    else is_within 182 185 op && has_float (member_type pool i)
+    if is_within ops.LDC ops.LDC2_W op then is_stub_constant (tag_of pool i)
+    else if is_within ops.GETSTATIC ops.PUTFIELD op then is_float_field (member_type pool i)
+    else is_within ops.INVOKEVIRTUAL ops.INVOKEINTERFACE op && has_float (member_type pool i)
 
 -- arrays of float and double
 abbrev pub is_float_array : ℤ → Bool
@@ -27,7 +28,7 @@ is_float_array (pos n) = is_within 6 7 n
 is_float_array (negsuc n) = false
 
 abbrev pub arg_makes_stub : List Entry → ℕ → Arg → Bool
-arg_makes_stub pool op (args.Number n) = (op == 188) && is_float_array n
+arg_makes_stub pool op (args.Number n) = (op == ops.NEWARRAY) && is_float_array n
 arg_makes_stub pool op (args.Index i) = names_stub pool op i
 arg_makes_stub pool op _ = false
 

@@ -7,7 +7,7 @@ use crate::fault::CodeFault;
 use crate::operands::{byte_at, u32_at};
 use crate::reading::form_of;
 use crate::switches::padded;
-use jl_optable::Operands;
+use jl_optable::{Operands, ops};
 use std::alloc::{AllocError, Global};
 
 /// The place behind operands that are whole.
@@ -64,8 +64,8 @@ fn wide_end(at: u32, code: &[u8], next: usize) -> Result<usize, CodeFault>
 {
     let (op, next) = byte_at(at, code, next)?;
     match op {
-        132 => whole_to(at, code, next + 4),
-        21..=25 | 54..=58 => whole_to(at, code, next + 2),
+        ops::IINC => whole_to(at, code, next + 4),
+        ops::ILOAD..=ops::ALOAD | ops::ISTORE..=ops::ASTORE => whole_to(at, code, next + 2),
         _ => Err(CodeFault::UnknownOp(at)),
     }
 }

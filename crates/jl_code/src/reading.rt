@@ -13,7 +13,7 @@ use crate::fault::CodeFault;
 use crate::operands::{byte_at, target, u16_at, u32_at};
 use crate::references::{is_array_of, is_right_index, is_slot_count, member_type};
 use crate::switches::{lookup_at, table_at};
-use jl_optable::{Form, Operands, op_table};
+use jl_optable::{Form, Operands, op_table, ops};
 use jl_pool::Pool;
 use std::alloc::Global;
 
@@ -25,7 +25,7 @@ fn byte_arg(at: u32, op: u8, code: &[u8], next: usize) -> Result<(Arg, usize), C
     ensures within { IfOk result (λ x. (next ≤ x.1) × (x.1 ≤ length code.now)) }
 {
     let (n, next) = byte_at(at, code, next)?;
-    if op == 188 && !matches!(n, 4..=11) {
+    if op == ops::NEWARRAY && !matches!(n, 4..=11) {
         return Err(CodeFault::BadIndex(at));
     }
     Ok((Arg::Number(n.cast_signed() as i32), next))
@@ -119,7 +119,7 @@ fn index_arg(pool: &Pool, op: u8, i: u16) -> Arg
     ensures { result ≡ words.index_arg pool.now op i }
 {
     match pool.long(i) {
-        Some(value) if op == 20 => Arg::Long(value),
+        Some(value) if op == ops::LDC2_W => Arg::Long(value),
         _ => Arg::Index(i),
     }
 }
@@ -276,8 +276,8 @@ fn wide_arg_at(at: u32, op: u8, code: &[u8], next: usize) -> Result<(Arg, usize)
     ensures within { IfOk result (λ x. (next ≤ x.1) × (x.1 ≤ length code.now)) }
 {
     match op {
-        132 => wide_inc_arg(at, code, next),
-        21..=25 | 54..=58 => wide_local_arg(at, code, next),
+        ops::IINC => wide_inc_arg(at, code, next),
+        ops::ILOAD..=ops::ALOAD | ops::ISTORE..=ops::ASTORE => wide_local_arg(at, code, next),
         _ => Err(CodeFault::UnknownOp(at)),
     }
 }
@@ -340,7 +340,7 @@ pub fn instr_at(
     let (op, next) = byte_at(at, code, at as usize)?;
     match form_of(op) {
         None => Err(CodeFault::UnknownOp(at)),
-        Some(form) if form.op == 196 => wide_at(at, code, next),
+        Some(form) if form.op == ops::WIDE => wide_at(at, code, next),
         Some(form) => plain_at(alloc, pool, at, &form, code, next),
     }
 }

@@ -10,6 +10,7 @@ ghost use Rattle.jl_code.specs.References as words;
 use crate::fault::CodeFault;
 use crate::types::slots;
 use jl_names::{Descriptor, TextFault, descriptor};
+use jl_optable::ops;
 use jl_pool::Pool;
 use jl_prim::Name;
 use std::alloc::Global;
@@ -93,8 +94,8 @@ fn has_method_tag(op: u8, tag: Option<u8>) -> bool
     ensures { result ≡ words.has_method_tag op tag }
 {
     match op {
-        182 => tag == Some(10),
-        185 => tag == Some(11),
+        ops::INVOKEVIRTUAL => tag == Some(10),
+        ops::INVOKEINTERFACE => tag == Some(11),
         _ => matches!(tag, Some(10 | 11)),
     }
 }
@@ -105,7 +106,7 @@ fn may_invoke(op: u8, name: Option<&Name>) -> bool
 {
     match name {
         Some(name) => {
-            name.as_bytes().first() != Some(&b'<') || (op == 183 && name.as_str() == "<init>")
+            name.as_bytes().first() != Some(&b'<') || (op == ops::INVOKESPECIAL && name.as_str() == "<init>")
         }
         None => false,
     }
@@ -149,8 +150,8 @@ fn is_class_for(pool: &Pool, op: u8, i: u16) -> bool
     ensures { result ≡ words.is_class_for pool.now op i }
 {
     match op {
-        187 => class_dims(pool, i) == Some(0),
-        189 => matches!(class_dims(pool, i), Some(0..=254)),
+        ops::NEW => class_dims(pool, i) == Some(0),
+        ops::ANEWARRAY => matches!(class_dims(pool, i), Some(0..=254)),
         _ => pool.class(i).is_some(),
     }
 }
@@ -171,10 +172,10 @@ pub fn is_right_index(alloc: Global, pool: &Pool, op: u8, i: u16) -> Result<bool
     ensures { Gives told (λ x. x) result (Ok (words.is_right_index pool.now op i)) }
 {
     match op {
-        20 => Ok(is_loadable_wide(pool, i)),
-        0..=19 => Ok(is_loadable(pool, i)),
-        21..=181 => is_field(alloc, pool, i),
-        182..=185 => is_method(alloc, pool, op, i),
+        ops::LDC2_W => Ok(is_loadable_wide(pool, i)),
+        0..=ops::LDC_W => Ok(is_loadable(pool, i)),
+        ops::ILOAD..=ops::PUTFIELD => is_field(alloc, pool, i),
+        ops::INVOKEVIRTUAL..=ops::INVOKEINTERFACE => is_method(alloc, pool, op, i),
         _ => Ok(is_class_for(pool, op, i)),
     }
 }

@@ -12,6 +12,7 @@ use crate::fault::CodeFault;
 use crate::reading::form_of;
 use crate::references::member_type;
 use crate::types::{has_float, is_float_field};
+use jl_optable::ops;
 use jl_pool::Pool;
 use std::alloc::Global;
 
@@ -27,12 +28,12 @@ fn names_stub(alloc: Global, pool: &Pool, op: u8, i: u16) -> Result<bool, CodeFa
     ensures { Gives told (λ x. x) result (Ok (words.names_stub pool.now op i)) }
 {
     match op {
-        18..=20 => Ok(is_stub_constant(pool.tag(i))),
-        178..=181 => {
+        ops::LDC..=ops::LDC2_W => Ok(is_stub_constant(pool.tag(i))),
+        ops::GETSTATIC..=ops::PUTFIELD => {
             let found = member_type(alloc, pool, i)?;
             Ok(is_float_field(&found))
         }
-        182..=185 => {
+        ops::INVOKEVIRTUAL..=ops::INVOKEINTERFACE => {
             let found = member_type(alloc, pool, i)?;
             Ok(has_float(&found))
         }
@@ -55,7 +56,7 @@ fn arg_makes_stub(alloc: Global, pool: &Pool, op: u8, arg: &Arg) -> Result<bool,
     ensures { Gives told (λ x. x) result (Ok (words.arg_makes_stub pool.now op arg.now)) }
 {
     match arg {
-        Arg::Number(n) => Ok(op == 188 && matches!(*n, 6..=7)),
+        Arg::Number(n) => Ok(op == ops::NEWARRAY && matches!(*n, 6..=7)),
         Arg::Index(i) => names_stub(alloc, pool, op, *i),
         _ => Ok(false),
     }
