@@ -74,7 +74,7 @@ walk_again (suc n) pool code before (i ∷ later) at enough stand =
 
 -- ---- the places
 
-place_of : (pool : List Entry) (code : List ℕ) (at : ℕ) (i : Instr) (end : ℕ) → InstrStands pool code at i end → i.at ≡ at
+pub place_of : (pool : List Entry) (code : List ℕ) (at : ℕ) (i : Instr) (end : ℕ) → InstrStands pool code at i end → i.at ≡ at
 place_of pool code at i end (inl s) = s.place
 place_of pool code at i end (inr s) = s.place
 

@@ -8,3 +8,4 @@ pub mod Rows
 pub mod Switching
 pub mod Tellings
 pub mod Walks
+pub mod SoundLaws

@@ -7,3 +7,4 @@ pub mod Walking
 pub mod Decoding
 pub mod Spelling
 pub mod Places
+pub mod Sound

@@ -7,6 +7,7 @@ ghost use Rattle.jl_code.specs.Places.{is_marked};
 ghost use Rattle.jl_code.specs.Decoding as words;
 ghost use Rattle.jl_code.specs.Decoding.{code_of};
 ghost use Rattle.jl_code.specs.Spelling.{IsCode};
+ghost use Rattle.jl_code.specs.Sound.{IsSound};
 ghost use Rattle.jl_code.specs.declared.code.Code.{Code};
 ghost use Rattle.jl_code.specs.declared.fault.CodeFault.{CodeFault};
 
@@ -93,6 +94,8 @@ pub fn decode(
     ensures found { IfOk result (λ c. IsCode pool.now desc.now code.now handlers.now c) }
     // What is spelled so is read, unless memory runs out.
     ensures only { (c : Code) → IsCode pool.now desc.now code.now handlers.now c → Gives told (λ x. x) result (Ok c) }
+    // What follows of instructions that are read.
+    ensures sound { IfOk result (λ c. IsSound pool.now desc.now code.now handlers.now c) }
     // There is a fault exactly where the bytes are no code.
     ensures one { ((f : CodeFault) × (code_of pool.now desc.now code.now handlers.now ≡ Err f)) ↔ ((c : Code) → IsCode pool.now desc.now code.now handlers.now c → ⊥) }
 {

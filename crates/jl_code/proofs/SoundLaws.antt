@@ -1,0 +1,174 @@
+-- What is spelled as code and makes no stub is sound.
+use Rattle.std.proofs.Common.{◌≡◌, ℕ, zero, suc, ◌+◌, ◌≤◌, ◌<◌, inl, inr, Bool, true, false, not, cond, ltb, leb, eqb, ℤ, List, [], ◌∷◌, length, map, Option, None, Some, refl, sym, ap, subst, ◌∙◌, arith}
+use Rattle.std.specs.Prelude.{IsTrue, ◌&&◌, slice_get}
+use Rattle.std.specs.Option.{option_map}
+use Rattle.std.specs.List.{list_all, AllByRecursion}
+use Rattle.std.proofs.lemmas.Bool.{cond_both, and_from, and_parts, or_cases, not_from_false, le-leb, lt-leb, leb-true, eqb-true}
+use Rattle.jl_prim.specs.declared.declaration.Handler.{Handler}
+use Rattle.jl_pool.specs.declared.entry.Entry.{Entry}
+use Rattle.jl_optable.specs.declared.form.Operands.{Operands}
+use Rattle.jl_optable.specs.declared.form.Operands.TheVariants as kinds
+use Rattle.jl_optable.specs.Rows.{has_row, operands_of}
+use Rattle.jl_code.specs.declared.code.Arg.{Arg}
+use Rattle.jl_code.specs.declared.code.Arg.TheVariants as args
+use Rattle.jl_code.specs.declared.code.Instr.{Instr}
+use Rattle.jl_code.specs.declared.code.Code.{Code}
+use Rattle.jl_code.specs.declared.code.Code.TheVariants as codes
+use Rattle.jl_code.specs.References.{is_right_index, is_slot_count, member_type, described, has_float}
+use Rattle.jl_code.specs.Instructions.{long_or_index, index_arg, names_local}
+use Rattle.jl_code.specs.Stubs.{makes_stub}
+use Rattle.jl_code.specs.Decoding.{first_where, stub_or, kind_of}
+use Rattle.jl_code.specs.Spelling.{ArgStands, WideArgStands, InstrStands, StandInstrs, IsCode}
+use Rattle.jl_code.specs.Sound.{starts, PlacesRise, names_entry, AreSound, IsSound}
+use Rattle.jl_code.proofs.InstrLaws.{instr_forth}
+use Rattle.jl_code.proofs.CodeLaws.{place_of}
+
+-- ---- places
+
+behind : (pool : List Entry) (code : List ℕ) (is : List Instr) (k at end : ℕ) → k < at → StandInstrs pool code at is end → AllByRecursion (λ (later : Instr). k < later.at) is
+behind pool code [] k at end lt stand = tt
+behind pool code (i ∷ is) k at end lt stand =
+    let place = place_of pool code at i stand.0 stand.1 in
+    let f = instr_forth pool code at i stand.0 stand.1 in
+    (omega (arith, lt, place), behind pool code is k stand.0 end (omega (arith, lt, f.0)) stand.2)
+
+rising : (pool : List Entry) (code : List ℕ) (is : List Instr) (at end : ℕ) → StandInstrs pool code at is end → PlacesRise is
+rising pool code [] at end stand = tt
+rising pool code (i ∷ is) at end stand =
+    let place = place_of pool code at i stand.0 stand.1 in
+    let f = instr_forth pool code at i stand.0 stand.1 in
+    (behind pool code is i.at stand.0 end (omega (arith, place, f.0)) stand.2, rising pool code is stand.0 end stand.2)
+
+inside : (pool : List Entry) (code : List ℕ) (is : List Instr) (at end : ℕ) → StandInstrs pool code at is end → AllByRecursion (λ (i : Instr). i.at < length code) is
+inside pool code [] at end stand = tt
+inside pool code (i ∷ is) at end stand =
+    let place = place_of pool code at i stand.0 stand.1 in
+    let f = instr_forth pool code at i stand.0 stand.1 in
+    (omega (arith, place, f.0, f.1), inside pool code is stand.0 end stand.2)
+
+first : (pool : List Entry) (code : List ℕ) (is : List Instr) (end : ℕ) → 0 < length is → StandInstrs pool code 0 is end → slice_get (starts is) 0 ≡ Some 0
+first pool code [] end some stand = absurd (omega arith)
+first pool code (i ∷ is) end some stand = ap (λ (n : ℕ). Some n) (place_of pool code 0 i stand.0 stand.1)
+
+-- ---- rows
+
+low : (op : ℕ) → op < 168 → has_row op ≡ true
+unfolding has_row
+low op lt = rw (le-leb op 200 (omega arith), lt-leb 168 op lt) refl
+
+local_row : (op : ℕ) → IsTrue (names_local op) → has_row op ≡ true
+local_row op h = elim (or_cases (leb 21 op && leb op 25) (leb 54 op && leb op 58) h) [
+    | inl load ↦ low op (omega (arith, leb-true op 25 (and_parts (leb 21 op) (leb op 25) load).1))
+    | inr store ↦ low op (omega (arith, leb-true op 58 (and_parts (leb 54 op) (leb op 58) store).1))
+  ]
+
+wide_row : (code : List ℕ) (op next : ℕ) (arg : Arg) (end : ℕ) → WideArgStands code op next arg end → has_row op ≡ true
+wide_row code op next arg end (inl s) = low op (omega (arith, eqb-true op 132 s.0))
+wide_row code op next arg end (inr s) = local_row op (and_parts (not (eqb op 132)) (names_local op) s.0).1
+
+row_of : (pool : List Entry) (code : List ℕ) (at : ℕ) (i : Instr) (end : ℕ) → InstrStands pool code at i end → has_row i.op ≡ true
+row_of pool code at i end (inl s) = s.row
+row_of pool code at i end (inr s) = wide_row code i.op (at + 1 + 1) i.arg end s.operands
+
+rows : (pool : List Entry) (code : List ℕ) (is : List Instr) (at end : ℕ) → StandInstrs pool code at is end → IsTrue (list_all (λ i. has_row i.op) is)
+rows pool code [] at end stand = refl
+rows pool code (i ∷ is) at end stand = and_from (has_row i.op) (list_all (λ i. has_row i.op) is) (row_of pool code at i stand.0 stand.1) (rows pool code is stand.0 end stand.2)
+
+-- ---- indices
+
+named_1 : (pool : List Entry) (op i : ℕ) (o : Option ℤ) → IsTrue (is_right_index pool op i) → names_entry pool op kinds.Index1 (long_or_index i o) ≡ true
+named_1 pool op i None h = h
+named_1 pool op i (Some v) h = refl
+
+named_2 : (pool : List Entry) (op i : ℕ) (o : Option ℤ) → IsTrue (is_right_index pool op i) → names_entry pool op kinds.Index2 (long_or_index i o) ≡ true
+named_2 pool op i None h = h
+named_2 pool op i (Some v) h = refl
+
+arg_named : (pool : List Entry) (code : List ℕ) (at op : ℕ) (kind : Operands) (next : ℕ) (arg : Arg) (end : ℕ) → ArgStands pool code at op kind next arg end → names_entry pool op kind arg ≡ true
+arg_named pool code at op kinds.Nothing next arg end s = rw s.0 refl
+arg_named pool code at op kinds.Byte next arg end s = rw s.meaning refl
+arg_named pool code at op kinds.Short next arg end s = rw s.meaning refl
+arg_named pool code at op kinds.Local next arg end s = rw s.meaning refl
+arg_named pool code at op kinds.Index1 next arg end s =
+    rw s.meaning (cond_both (eqb op 20) (long_or_index s.n _) (args.Index s.n) (λ a. names_entry pool op kinds.Index1 a ≡ true) (λ h. named_1 pool op s.n _ s.rule) (λ h. s.rule))
+arg_named pool code at op kinds.Index2 next arg end s =
+    rw s.meaning (cond_both (eqb op 20) (long_or_index s.n _) (args.Index s.n) (λ a. names_entry pool op kinds.Index2 a ≡ true) (λ h. named_2 pool op s.n _ s.rule) (λ h. s.rule))
+arg_named pool code at op kinds.Inc next arg end s = rw s.meaning refl
+arg_named pool code at op kinds.Target2 next arg end s = rw s.meaning refl
+arg_named pool code at op kinds.Target4 next arg end s = rw s.meaning refl
+arg_named pool code at op kinds.Table next arg end s = rw s.meaning refl
+arg_named pool code at op kinds.Lookup next arg end s = rw s.meaning refl
+arg_named pool code at op kinds.Interface next arg end s = rw s.meaning (and_parts (is_right_index pool op s.index) (is_slot_count s.count (member_type pool s.index) && eqb s.nothing 0) s.rule).0
+arg_named pool code at op kinds.Dynamic next arg end s = rw s.meaning s.rule
+arg_named pool code at op kinds.Multi next arg end s = rw s.meaning s.rule
+arg_named pool code at op kinds.Wide next arg end s = rw s.0 refl
+
+local_named : (pool : List Entry) (op n : ℕ) (kind : Operands) → names_entry pool op kind (args.Local n) ≡ true
+local_named pool op n kinds.Dynamic = refl
+local_named pool op n _ = refl
+
+inc_named : (pool : List Entry) (op n : ℕ) (z : ℤ) (kind : Operands) → names_entry pool op kind (args.Inc n z) ≡ true
+inc_named pool op n z kinds.Dynamic = refl
+inc_named pool op n z _ = refl
+
+wide_named : (pool : List Entry) (code : List ℕ) (op next : ℕ) (arg : Arg) (end : ℕ) → WideArgStands code op next arg end → names_entry pool op (operands_of op) arg ≡ true
+wide_named pool code op next arg end (inl s) = rw s.1.meaning (inc_named pool op _ _ (operands_of op))
+wide_named pool code op next arg end (inr s) = rw s.1.meaning (local_named pool op _ (operands_of op))
+
+instr_named : (pool : List Entry) (code : List ℕ) (at : ℕ) (i : Instr) (end : ℕ) → InstrStands pool code at i end → names_entry pool i.op (operands_of i.op) i.arg ≡ true
+instr_named pool code at i end (inl s) = arg_named pool code at i.op (operands_of i.op) (at + 1) i.arg end s.operands
+instr_named pool code at i end (inr s) = wide_named pool code i.op (at + 1 + 1) i.arg end s.operands
+
+named : (pool : List Entry) (code : List ℕ) (is : List Instr) (at end : ℕ) → StandInstrs pool code at is end → IsTrue (list_all (λ i. names_entry pool i.op (operands_of i.op) i.arg) is)
+named pool code [] at end stand = refl
+named pool code (i ∷ is) at end stand =
+    and_from (names_entry pool i.op (operands_of i.op) i.arg) (list_all (λ i. names_entry pool i.op (operands_of i.op) i.arg) is) (instr_named pool code at i stand.0 stand.1) (named pool code is stand.0 end stand.2)
+
+-- ---- stubs
+
+none_first : (test : Instr → Bool) (is : List Instr) → first_where test is ≡ None → IsTrue (list_all (λ i. not (test i)) is)
+unfolding first_where
+none_first test [] e = refl
+none_first test (i ∷ is) e0 =
+    cond_both (test i) (Some i) (first_where test is) (λ o. o ≡ None → IsTrue (list_all (λ i. not (test i)) (i ∷ is)))
+    (λ n e. absurd cc) (λ t e. and_from (not (test i)) (list_all (λ i. not (test i)) is) (not_from_false (test i) t) (none_first test is e)) e0
+
+-- what instructions are that make no stub
+record Runs (pool : List Entry) (desc : List ℕ) (instrs is : List Instr) : Type 0 where
+  own : has_float (described (Some desc)) ≡ false
+  runs : IsTrue (list_all (λ i. not (makes_stub pool i)) instrs)
+  same : instrs ≡ is
+
+abbrev instrs_of : Code → List Instr
+instrs_of (codes.Instructions is) = is
+instrs_of (codes.Stub op) = []
+
+no_first : (pool : List Entry) (desc : List ℕ) (instrs is : List Instr) (o : Option Instr) → first_where (makes_stub pool) instrs ≡ o → has_float (described (Some desc)) ≡ false → stub_or instrs (option_map (λ i. i.op) o) ≡ codes.Instructions is → Runs pool desc instrs is
+no_first pool desc instrs is (Some i) here own e = absurd cc
+no_first pool desc instrs is None here own e = record { own = own; runs = none_first (makes_stub pool) instrs here; same = ap instrs_of e }
+
+runs_as : (pool : List Entry) (desc : List ℕ) (instrs is : List Instr) → kind_of pool desc instrs ≡ codes.Instructions is → Runs pool desc instrs is
+runs_as pool desc instrs is e0 =
+    cond_both (has_float (described (Some desc))) (codes.Stub None) (stub_or instrs (option_map (λ i. i.op) (first_where (makes_stub pool) instrs))) (λ (k : Code). k ≡ codes.Instructions is → Runs pool desc instrs is)
+    (λ h e. absurd cc) (λ h e. no_first pool desc instrs is (first_where (makes_stub pool) instrs) refl h e) e0
+
+-- ---- the whole
+
+instrs_sound : (pool : List Entry) (desc code : List ℕ) (handlers : List Handler) (is : List Instr) → IsCode pool desc code handlers (codes.Instructions is) → AreSound pool desc code handlers is
+instrs_sound pool desc code handlers is s =
+    let r = runs_as pool desc s.instrs is (sym s.kind) in
+    subst (λ (all : List Instr). AreSound pool desc code handlers all) r.same (record {
+      first = first pool code s.instrs (length code) s.some s.stand;
+      rise = rising pool code s.instrs 0 (length code) s.stand;
+      inside = inside pool code s.instrs 0 (length code) s.stand;
+      rows = rows pool code s.instrs 0 (length code) s.stand;
+      lead = s.lead;
+      handled = s.handled;
+      named = named pool code s.instrs 0 (length code) s.stand;
+      runs = r.runs;
+      own = r.own;
+    })
+
+pub code_sound : (pool : List Entry) (desc code : List ℕ) (handlers : List Handler) (c : Code) → IsCode pool desc code handlers c → IsSound pool desc code handlers c
+code_sound pool desc code handlers (codes.Instructions is) s = instrs_sound pool desc code handlers is s
+code_sound pool desc code handlers (codes.Stub op) s = tt
