@@ -9,3 +9,4 @@ pub mod Switching
 pub mod Tellings
 pub mod Walks
 pub mod SoundLaws
+pub mod IndexLaws

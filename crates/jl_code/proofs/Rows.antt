@@ -1,19 +1,28 @@
 -- Worked rows of the definitions.
-use Rattle.std.proofs.Common.{◌≡◌, ℕ, List, Result, [], ◌∷◌, Ok, Err, Some, None, true, false, refl}
+use Rattle.std.proofs.Common.{◌≡◌, ℕ, arith, List, Result, [], ◌∷◌, Ok, Err, Some, None, true, false, refl}
 use Rattle.std.specs.Prelude.{pos, negsuc}
+use lib.Utf8.{encode}
 use Rattle.jl_reading.specs.Reading.{each_at}
 use Rattle.jl_names.specs.Descriptors.{descriptor_read, method_at, field_at, params_at, param_at, type_at, base_at, brackets, name_end, result_at}
 use Rattle.jl_prim.specs.declared.declaration.Handler.{Handler}
 use Rattle.jl_pool.specs.declared.entry.Entry.{Entry}
 use Rattle.jl_pool.specs.declared.entry.Entry.TheVariants as entries
 use Rattle.jl_optable.specs.Rows.{form_of, has_row, is_stub, operands_of}
+use Rattle.jl_optable.specs.declared.ops.TheConstants as ops
+use Rattle.jl_optable.specs.declared.form.Operands.TheVariants as kinds
+use Rattle.jl_names.specs.Text.{plain, has_no_lone_surrogate}
+use Rattle.jl_code.specs.declared.code.Arg.{Arg}
+use Rattle.jl_code.specs.declared.code.Instr.{Instr}
+use Rattle.jl_code.specs.Sound.{PlacesRise, names_entry}
+use Rattle.jl_code.specs.PlaceTables.{index_in}
+use Rattle.jl_code.specs.Locals.{local_of}
 use Rattle.jl_code.specs.declared.fault.CodeFault.{CodeFault}
 use Rattle.jl_code.specs.declared.code.Code.{Code}
 use Rattle.jl_code.specs.declared.fault.CodeFault.TheVariants as faults
 use Rattle.jl_code.specs.declared.code.Arg.TheVariants as args
 use Rattle.jl_code.specs.declared.code.Code.TheVariants as codes
 use Rattle.jl_code.specs.Operands.{branch_at, inc_at, wide_inc_at, table_at, case_at, lookup_at, lookup_case}
-use Rattle.jl_code.specs.References.{is_right_index}
+use Rattle.jl_code.specs.References.{is_right_index, class_at, member_tag, member_class, member_name, member_desc}
 use Rattle.jl_code.specs.Instructions.{instr_at, plain_at, wide_at, wide_arg_at, arg_at, byte_at, short_at, local_at, index_at, interface_at, dynamic_at, multi_at}
 use Rattle.jl_code.specs.Stubs.{makes_stub}
 use Rattle.jl_code.specs.Places.{places_from, next_place, end_at, wide_end, table_end, lookup_end}
@@ -183,3 +192,40 @@ a_handler_of_no_class = refl
 a_handler_before_a_stub : code_of [] to_void (11 ∷ []) (record { start = 0; end = 1; target = 1; catch_type = 0 } ∷ []) ≡ Err (faults.BadRange 0)
 unfolding decoded
 a_handler_before_a_stub = refl
+
+-- ---- what instructions name
+
+abbrev instr : ℕ → Arg → Instr
+instr op arg = record { at = 0; op = op; wide = false; arg = arg }
+
+a_hidden_local : (local_of ops.ILOAD_0 args.Nothing ≡ Some 0) × (local_of ops.ALOAD_3 args.Nothing ≡ Some 3) × (local_of ops.LSTORE_2 args.Nothing ≡ Some 2) × (local_of ops.ASTORE_1 args.Nothing ≡ Some 1)
+a_hidden_local = (refl, refl, refl, refl)
+
+a_local : (local_of ops.ALOAD (args.Local 7) ≡ Some 7) × (local_of ops.IINC (args.Inc 300 (negsuc 0)) ≡ Some 300)
+a_local = (refl, refl)
+
+no_local : (local_of ops.IALOAD args.Nothing ≡ None) × (local_of ops.SASTORE args.Nothing ≡ None) × (local_of ops.BIPUSH (args.Number (pos 1)) ≡ None)
+no_local = (refl, refl, refl)
+
+a_class_text : (class_at some_pool 2 ≡ Some (102 ∷ [])) × (class_at some_pool 8 ≡ Some (91 ∷ 91 ∷ 73 ∷ [])) × (class_at some_pool 5 ≡ None)
+unfolding plain encode
+a_class_text = (refl, refl, refl)
+
+a_member : (member_tag some_pool 5 ≡ Some 10) × (member_class some_pool 5 ≡ Some (102 ∷ [])) × (member_name some_pool 5 ≡ Some (102 ∷ [])) × (member_desc some_pool 5 ≡ Some (40 ∷ 74 ∷ 41 ∷ 86 ∷ []))
+unfolding plain encode has_no_lone_surrogate
+a_member = (refl, refl, refl, refl)
+
+no_member : (member_tag some_pool 2 ≡ None) × (member_class some_pool 2 ≡ None) × (member_name some_pool 2 ≡ None) × (member_desc some_pool 2 ≡ None)
+no_member = (refl, refl, refl, refl)
+
+-- new makes no array, checkcast takes one
+an_array_is_named : (names_entry some_pool ops.NEW kinds.Index2 (args.Index 8) ≡ false) × (names_entry some_pool ops.CHECKCAST kinds.Index2 (args.Index 8) ≡ true)
+unfolding is_right_index brackets plain encode
+an_array_is_named = (refl, refl)
+
+-- the second instruction begins at 2
+two_places : (index_in (Some 0 ∷ None ∷ Some 1 ∷ []) 2 ≡ Some 1) × (index_in (Some 0 ∷ None ∷ Some 1 ∷ []) 1 ≡ None) × (index_in (Some 0 ∷ None ∷ Some 1 ∷ []) 3 ≡ None)
+two_places = (refl, refl, refl)
+
+places_that_rise : PlacesRise (record (instr 0 args.Nothing) { at = 0 } ∷ record (instr 0 args.Nothing) { at = 2 } ∷ [])
+places_that_rise = ((omega arith, tt), (tt, tt))

@@ -1,5 +1,5 @@
 -- What is spelled as code and makes no stub is sound.
-use Rattle.std.proofs.Common.{◌≡◌, ℕ, zero, suc, ◌+◌, ◌≤◌, ◌<◌, inl, inr, Bool, true, false, not, cond, ltb, leb, eqb, ℤ, List, [], ◌∷◌, length, map, Option, None, Some, refl, sym, ap, subst, ◌∙◌, arith}
+use Rattle.std.proofs.Common.{◌≡◌, ℕ, ◌+◌, ◌<◌, inl, inr, Bool, true, false, not, leb, eqb, ℤ, List, [], ◌∷◌, length, Option, None, Some, refl, sym, ap, subst, arith}
 use Rattle.std.specs.Prelude.{IsTrue, ◌&&◌, slice_get}
 use Rattle.std.specs.Option.{option_map}
 use Rattle.std.specs.List.{list_all, AllByRecursion}
@@ -15,7 +15,7 @@ use Rattle.jl_code.specs.declared.code.Instr.{Instr}
 use Rattle.jl_code.specs.declared.code.Code.{Code}
 use Rattle.jl_code.specs.declared.code.Code.TheVariants as codes
 use Rattle.jl_code.specs.References.{is_right_index, is_slot_count, member_type, described, has_float}
-use Rattle.jl_code.specs.Instructions.{long_or_index, index_arg, names_local}
+use Rattle.jl_code.specs.Instructions.{long_or_index, names_local}
 use Rattle.jl_code.specs.Stubs.{makes_stub}
 use Rattle.jl_code.specs.Decoding.{first_where, stub_or, kind_of}
 use Rattle.jl_code.specs.Spelling.{ArgStands, WideArgStands, InstrStands, StandInstrs, IsCode}
@@ -58,9 +58,9 @@ low op lt = rw (le-leb op 200 (omega arith), lt-leb 168 op lt) refl
 
 local_row : (op : ℕ) → IsTrue (names_local op) → has_row op ≡ true
 local_row op h = elim (or_cases (leb 21 op && leb op 25) (leb 54 op && leb op 58) h) [
-    | inl load ↦ low op (omega (arith, leb-true op 25 (and_parts (leb 21 op) (leb op 25) load).1))
-    | inr store ↦ low op (omega (arith, leb-true op 58 (and_parts (leb 54 op) (leb op 58) store).1))
-  ]
+  | inl load ↦ low op (omega (arith, leb-true op 25 (and_parts (leb 21 op) (leb op 25) load).1))
+  | inr store ↦ low op (omega (arith, leb-true op 58 (and_parts (leb 54 op) (leb op 58) store).1))
+]
 
 wide_row : (code : List ℕ) (op next : ℕ) (arg : Arg) (end : ℕ) → WideArgStands code op next arg end → has_row op ≡ true
 wide_row code op next arg end (inl s) = low op (omega (arith, eqb-true op 132 s.0))

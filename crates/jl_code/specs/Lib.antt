@@ -8,3 +8,5 @@ pub mod Decoding
 pub mod Spelling
 pub mod Places
 pub mod Sound
+pub mod PlaceTables
+pub mod Locals

@@ -17,6 +17,17 @@ abbrev pub has_tag : ℕ → Option ℕ → Bool
 has_tag tag None = false
 has_tag tag (Some found) = found == tag
 
+-- ---- classes
+
+-- the text of a class, by the index of the text
+abbrev pub class_text : List Entry → Option ℕ → Option (List ℕ)
+class_text pool None = None
+class_text pool (Some name) = text_of pool name
+
+-- the text of the class at an index: its name, or the descriptor of an array
+abbrev pub class_at : List Entry → ℕ → Option (List ℕ)
+class_at pool i = class_text pool (class_of pool i)
+
 -- ---- members
 
 abbrev pub first_of : Option (ℕ × ℕ × ℕ) → Option ℕ
@@ -41,9 +52,19 @@ abbrev pub desc_text : List Entry → Option (ℕ × ℕ) → Option (List ℕ)
 desc_text pool None = None
 desc_text pool (Some named) = paired_text pool named.1
 
+abbrev pub owner_text : List Entry → Option (ℕ × ℕ × ℕ) → Option (List ℕ)
+owner_text pool None = None
+owner_text pool (Some member) = class_at pool member.1
+
+-- the text of the class that a member is looked up in
+abbrev pub member_class : List Entry → ℕ → Option (List ℕ)
+member_class pool i = owner_text pool (member_of pool i)
+
+-- the name of a member
 abbrev pub member_name : List Entry → ℕ → Option (List ℕ)
 member_name pool i = name_text pool (named_by pool (member_of pool i))
 
+-- the descriptor of a member, as a text
 abbrev pub member_desc : List Entry → ℕ → Option (List ℕ)
 member_desc pool i = desc_text pool (named_by pool (member_of pool i))
 
@@ -109,12 +130,8 @@ abbrev pub brackets_or_none : Option (List ℕ) → Option ℕ
 brackets_or_none None = None
 brackets_or_none (Some name) = Some (brackets name)
 
-abbrev pub class_text : List Entry → Option ℕ → Option (List ℕ)
-class_text pool None = None
-class_text pool (Some name) = text_of pool name
-
 abbrev pub class_dims : List Entry → ℕ → Option ℕ
-class_dims pool i = brackets_or_none (class_text pool (class_of pool i))
+class_dims pool i = brackets_or_none (class_at pool i)
 
 -- ---- which indices are right
 

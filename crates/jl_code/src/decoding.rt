@@ -1,7 +1,7 @@
 //! Decoding a method's code.
 
 ghost use Rattle.std.specs.Prelude.{◌≡◌, ◌<◌, ◌^◌, ◌↔◌, length, Ok, Err, IfOk};
-ghost use Rattle.jl_logic.specs.Answers.{Gives};
+ghost use Rattle.jl_logic.specs.Answers.{Tells};
 ghost use Rattle.jl_code.specs.Told.{told};
 ghost use Rattle.jl_code.specs.Places.{is_marked};
 ghost use Rattle.jl_code.specs.Decoding as words;
@@ -31,7 +31,7 @@ fn kind_of(
     desc: &[u8],
     instructions: Items<Instr>,
 ) -> Result<Code, CodeFault>
-    ensures { Gives told (λ x. x) result (Ok (words.kind_of pool.now desc.now instructions)) }
+    ensures { Tells told result (Ok (words.kind_of pool.now desc.now instructions)) }
 {
     let method = described(alloc, desc)?;
     if has_float(&method) {
@@ -53,7 +53,7 @@ fn judged(
     marks: &[bool],
     walked: Walked,
 ) -> Result<Code, CodeFault>
-    ensures { Gives told (λ x. x) result (words.judged pool.now desc.now code.now handlers.now (is_marked marks.now) walked) }
+    ensures { Tells told result (words.judged pool.now desc.now code.now handlers.now (is_marked marks.now) walked) }
 {
     let Walked {
         instructions,
@@ -89,11 +89,11 @@ pub fn decode(
 ) -> Result<Code, CodeFault>
     requires { length code.now < 2 ^ 32 }
     // By reading from left to right.
-    ensures exact { Gives told (λ x. x) result (code_of pool.now desc.now code.now handlers.now) }
+    ensures exact { Tells told result (code_of pool.now desc.now code.now handlers.now) }
     // What is read is spelled so.
     ensures found { IfOk result (λ c. IsCode pool.now desc.now code.now handlers.now c) }
     // What is spelled so is read, unless memory runs out.
-    ensures only { (c : Code) → IsCode pool.now desc.now code.now handlers.now c → Gives told (λ x. x) result (Ok c) }
+    ensures only { (c : Code) → IsCode pool.now desc.now code.now handlers.now c → Tells told result (Ok c) }
     // What follows of instructions that are read.
     ensures sound { IfOk result (λ c. IsSound pool.now desc.now code.now handlers.now c) }
     // There is a fault exactly where the bytes are no code.
@@ -111,7 +111,7 @@ fn decoded(
     handlers: &[Handler],
 ) -> Result<Code, CodeFault>
     requires { length code.now < 2 ^ 32 }
-    ensures { Gives told (λ x. x) result (code_of pool.now desc.now code.now handlers.now) }
+    ensures { Tells told result (code_of pool.now desc.now code.now handlers.now) }
 {
     if code.is_empty() {
         return Err(CodeFault::Empty);

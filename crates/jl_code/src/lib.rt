@@ -6,7 +6,10 @@ mod code;
 mod decoding;
 mod fault;
 mod handlers;
+mod locals;
+mod members;
 mod operands;
+mod place_table;
 mod places;
 mod reading;
 mod references;
@@ -18,6 +21,9 @@ mod walking;
 pub use code::{Arg, Code, Instr};
 pub use decoding::decode;
 pub use fault::CodeFault;
+pub use locals::local_of;
+pub use members::{class_text, member_class, member_desc, member_name, member_tag};
+pub use place_table::PlaceTable;
 
 #[cfg(test)]
 mod tests;

@@ -2,7 +2,7 @@
 
 ghost use Rattle.std.specs.Prelude.{◌≡◌, ◌≤◌, ◌<◌, ◌^◌, length, IfOk};
 ghost use Rattle.std.specs.Int.{w16, w32};
-ghost use Rattle.jl_logic.specs.Answers.{Gives};
+ghost use Rattle.jl_logic.specs.Answers.{Tells};
 ghost use Rattle.jl_optable.specs.Rows as rows;
 ghost use Rattle.jl_code.specs.Told.{told};
 ghost use Rattle.jl_code.specs.Operands as operands;
@@ -133,7 +133,7 @@ fn named(
     i: u16,
     next: usize,
 ) -> Result<(Arg, usize), CodeFault>
-    ensures exact { Gives told (λ x. x) result (words.named pool.now at op i next) }
+    ensures exact { Tells told result (words.named pool.now at op i next) }
     ensures within { IfOk result (λ x. x.1 ≡ next) }
 {
     if !is_right_index(alloc, pool, op, i)? {
@@ -153,7 +153,7 @@ fn short_index_arg(
     next: usize,
 ) -> Result<(Arg, usize), CodeFault>
     requires { next ≤ length code.now }
-    ensures exact { Gives told (λ x. x) result (words.index_at pool.now at op 1 code.now next) }
+    ensures exact { Tells told result (words.index_at pool.now at op 1 code.now next) }
     ensures within { IfOk result (λ x. (next ≤ x.1) × (x.1 ≤ length code.now)) }
 {
     let (i, next) = byte_at(at, code, next)?;
@@ -171,7 +171,7 @@ fn long_index_arg(
     next: usize,
 ) -> Result<(Arg, usize), CodeFault>
     requires { next ≤ length code.now }
-    ensures exact { Gives told (λ x. x) result (words.index_at pool.now at op 2 code.now next) }
+    ensures exact { Tells told result (words.index_at pool.now at op 2 code.now next) }
     ensures within { IfOk result (λ x. (next ≤ x.1) × (x.1 ≤ length code.now)) }
 {
     let (i, next) = u16_at(at, code, next)?;
@@ -189,7 +189,7 @@ fn interface_arg(
     next: usize,
 ) -> Result<(Arg, usize), CodeFault>
     requires { next ≤ length code.now }
-    ensures exact { Gives told (λ x. x) result (words.interface_at pool.now at op code.now next) }
+    ensures exact { Tells told result (words.interface_at pool.now at op code.now next) }
     ensures within { IfOk result (λ x. (next ≤ x.1) × (x.1 ≤ length code.now)) }
 {
     let (i, next) = u16_at(at, code, next)?;
@@ -247,7 +247,7 @@ fn arg_at(
 ) -> Result<(Arg, usize), CodeFault>
     requires small { length code.now < 2 ^ 32 }
     requires placed { next ≤ length code.now }
-    ensures exact { Gives told (λ x. x) result (words.arg_at pool.now at form.now.op form.now.operands code.now next) }
+    ensures exact { Tells told result (words.arg_at pool.now at form.now.op form.now.operands code.now next) }
     ensures within { IfOk result (λ x. (next ≤ x.1) × (x.1 ≤ length code.now)) }
 {
     match form.operands {
@@ -315,7 +315,7 @@ fn plain_at(
 ) -> Result<(Instr, usize), CodeFault>
     requires small { length code.now < 2 ^ 32 }
     requires placed { next ≤ length code.now }
-    ensures exact { Gives told (λ x. x) result (words.plain_at pool.now at form.now.op form.now.operands code.now next) }
+    ensures exact { Tells told result (words.plain_at pool.now at form.now.op form.now.operands code.now next) }
     ensures within { IfOk result (λ x. (next ≤ x.1) × (x.1 ≤ length code.now)) }
 {
     let (arg, next) = arg_at(alloc, pool, at, form, code, next)?;
@@ -334,7 +334,7 @@ pub fn instr_at(
 ) -> Result<(Instr, usize), CodeFault>
     requires small { length code.now < 2 ^ 32 }
     requires placed { at < length code.now }
-    ensures exact { Gives told (λ x. x) result (words.instr_at pool.now code.now at) }
+    ensures exact { Tells told result (words.instr_at pool.now code.now at) }
     ensures within { IfOk result (λ x. (at < x.1) × (x.1 ≤ length code.now)) }
 {
     let (op, next) = byte_at(at, code, at as usize)?;

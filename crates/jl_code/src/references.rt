@@ -2,12 +2,13 @@
 
 ghost use Rattle.std.specs.Prelude.{◌≡◌, Ok, Some};
 ghost use Rattle.std.specs.Option.{option_copied};
-ghost use Rattle.jl_logic.specs.Answers.{Gives};
+ghost use Rattle.jl_logic.specs.Answers.{Tells};
 ghost use Rattle.jl_names.specs.Descriptors as types;
 ghost use Rattle.jl_code.specs.Told.{told};
 ghost use Rattle.jl_code.specs.References as words;
 
 use crate::fault::CodeFault;
+use crate::members::{class_text, member_desc, member_name, member_tag};
 use crate::types::slots;
 use jl_names::{Descriptor, TextFault, descriptor};
 use jl_optable::ops;
@@ -17,7 +18,7 @@ use std::alloc::Global;
 
 /// What a text says as a descriptor, where it is one.
 pub fn described(alloc: Global, text: &[u8]) -> Result<Option<Descriptor>, CodeFault>
-    ensures { Gives told (λ x. x) result (Ok (words.described (Some text.now))) }
+    ensures { Tells told result (Ok (words.described (Some text.now))) }
 {
     match descriptor(alloc, text) {
         Ok(found) => Ok(Some(found)),
@@ -26,41 +27,13 @@ pub fn described(alloc: Global, text: &[u8]) -> Result<Option<Descriptor>, CodeF
     }
 }
 
-/// The name of the member at an index.
-fn member_name(pool: &Pool, i: u16) -> Option<&Name>
-    ensures { option_copied result ≡ words.member_name pool.now i }
-{
-    let (_, _, named) = pool.member(i)?;
-    let (name, _) = pool.name_and_type(named)?;
-    pool.text(name)
-}
-
-/// The descriptor of the member at an index, as a text.
-fn member_desc(pool: &Pool, i: u16) -> Option<&Name>
-    ensures { option_copied result ≡ words.member_desc pool.now i }
-{
-    let (_, _, named) = pool.member(i)?;
-    let (_, desc) = pool.name_and_type(named)?;
-    pool.paired_text(desc)
-}
-
 /// What the descriptor of the member at an index says.
 pub fn member_type(alloc: Global, pool: &Pool, i: u16) -> Result<Option<Descriptor>, CodeFault>
-    ensures { Gives told (λ x. x) result (Ok (words.member_type pool.now i)) }
+    ensures { Tells told result (Ok (words.member_type pool.now i)) }
 {
     match member_desc(pool, i) {
         Some(desc) => described(alloc, desc.as_bytes()),
         None => Ok(None),
-    }
-}
-
-/// The tag of the member at an index.
-fn member_tag(pool: &Pool, i: u16) -> Option<u8>
-    ensures { result ≡ words.member_tag pool.now i }
-{
-    match pool.member(i) {
-        Some((tag, _, _)) => Some(tag),
-        None => None,
     }
 }
 
@@ -80,7 +53,7 @@ fn is_loadable_wide(pool: &Pool, i: u16) -> bool
 
 /// Whether the entry at an index is a field with the descriptor of one.
 fn is_field(alloc: Global, pool: &Pool, i: u16) -> Result<bool, CodeFault>
-    ensures { Gives told (λ x. x) result (Ok (words.is_field pool.now i)) }
+    ensures { Tells told result (Ok (words.is_field pool.now i)) }
 {
     if member_tag(pool, i) != Some(9) {
         return Ok(false);
@@ -106,7 +79,8 @@ fn may_invoke(op: u8, name: Option<&Name>) -> bool
 {
     match name {
         Some(name) => {
-            name.as_bytes().first() != Some(&b'<') || (op == ops::INVOKESPECIAL && name.as_str() == "<init>")
+            name.as_bytes().first() != Some(&b'<')
+                || (op == ops::INVOKESPECIAL && name.as_str() == "<init>")
         }
         None => false,
     }
@@ -114,7 +88,7 @@ fn may_invoke(op: u8, name: Option<&Name>) -> bool
 
 /// Whether the entry at an index is a method that an invoke takes.
 fn is_method(alloc: Global, pool: &Pool, op: u8, i: u16) -> Result<bool, CodeFault>
-    ensures { Gives told (λ x. x) result (Ok (words.is_method pool.now op i)) }
+    ensures { Tells told result (Ok (words.is_method pool.now op i)) }
 {
     if !has_method_tag(op, member_tag(pool, i)) || !may_invoke(op, member_name(pool, i)) {
         return Ok(false);
@@ -127,7 +101,7 @@ fn is_method(alloc: Global, pool: &Pool, op: u8, i: u16) -> Result<bool, CodeFau
 fn class_dims(pool: &Pool, i: u16) -> Option<usize>
     ensures { result ≡ words.class_dims pool.now i }
 {
-    let name = pool.text(pool.class(i)?)?;
+    let name = class_text(pool, i)?;
     Some(brackets(name.as_bytes()))
 }
 
@@ -169,7 +143,7 @@ pub fn is_array_of(pool: &Pool, i: u16, count: u8) -> bool
 /// Whether an index is one that an instruction takes whose only operand it is.
 #[tactic(auto, unfolding(crate::specs::References::is_right_index))]
 pub fn is_right_index(alloc: Global, pool: &Pool, op: u8, i: u16) -> Result<bool, CodeFault>
-    ensures { Gives told (λ x. x) result (Ok (words.is_right_index pool.now op i)) }
+    ensures { Tells told result (Ok (words.is_right_index pool.now op i)) }
 {
     match op {
         ops::LDC2_W => Ok(is_loadable_wide(pool, i)),

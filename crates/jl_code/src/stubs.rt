@@ -1,7 +1,7 @@
 //! Instructions that make a method a stub.
 
 ghost use Rattle.std.specs.Prelude.{◌≡◌, Ok};
-ghost use Rattle.jl_logic.specs.Answers.{Gives};
+ghost use Rattle.jl_logic.specs.Answers.{Tells};
 ghost use Rattle.jl_optable.specs.Rows as rows;
 ghost use Rattle.jl_code.specs.Told.{told};
 ghost use Rattle.jl_code.specs.Stubs as words;
@@ -25,7 +25,7 @@ fn is_stub_constant(tag: Option<u8>) -> bool
 
 /// Whether what an instruction names makes a stub.
 fn names_stub(alloc: Global, pool: &Pool, op: u8, i: u16) -> Result<bool, CodeFault>
-    ensures { Gives told (λ x. x) result (Ok (words.names_stub pool.now op i)) }
+    ensures { Tells told result (Ok (words.names_stub pool.now op i)) }
 {
     match op {
         ops::LDC..=ops::LDC2_W => Ok(is_stub_constant(pool.tag(i))),
@@ -53,7 +53,7 @@ fn row_makes_stub(op: u8) -> bool
 
 /// Whether an instruction makes a stub by its operands.
 fn arg_makes_stub(alloc: Global, pool: &Pool, op: u8, arg: &Arg) -> Result<bool, CodeFault>
-    ensures { Gives told (λ x. x) result (Ok (words.arg_makes_stub pool.now op arg.now)) }
+    ensures { Tells told result (Ok (words.arg_makes_stub pool.now op arg.now)) }
 {
     match arg {
         Arg::Number(n) => Ok(op == ops::NEWARRAY && matches!(*n, 6..=7)),
@@ -65,7 +65,7 @@ fn arg_makes_stub(alloc: Global, pool: &Pool, op: u8, arg: &Arg) -> Result<bool,
 /// Whether an instruction makes a stub.
 #[tactic(auto, unfolding(crate::specs::Stubs::makes_stub))]
 fn makes_stub(alloc: Global, pool: &Pool, instr: &Instr) -> Result<bool, CodeFault>
-    ensures { Gives told (λ x. x) result (Ok (words.makes_stub pool.now instr.now)) }
+    ensures { Tells told result (Ok (words.makes_stub pool.now instr.now)) }
 {
     if row_makes_stub(instr.op) {
         return Ok(true);
@@ -76,7 +76,7 @@ fn makes_stub(alloc: Global, pool: &Pool, instr: &Instr) -> Result<bool, CodeFau
 /// The opcode of the first instruction that makes a stub.
 #[tactic(auto, unfolding(crate::specs::Decoding::first_where))]
 pub fn first_stub(alloc: Global, pool: &Pool, all: &[Instr]) -> Result<Option<u8>, CodeFault>
-    ensures { Gives told (λ x. x) result (Ok (decoded.first_stub pool.now all.now)) }
+    ensures { Tells told result (Ok (decoded.first_stub pool.now all.now)) }
 {
     let mut rest = all;
     while let [instr, others @ ..] = rest {

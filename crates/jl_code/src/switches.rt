@@ -1,7 +1,7 @@
 //! Operands of switches (JVMS 6.5, tableswitch and lookupswitch).
 
 ghost use Rattle.std.specs.Prelude.{◌≡◌, ◌≤◌, ◌<◌, ◌+◌, ◌-◌, ◌*◌, ◌^◌, ◌≤ℤ◌, ◌<ℤ◌, ◌+ℤ◌, pos, [], length, slice_get, IfOk};
-ghost use Rattle.jl_logic.specs.Answers.{Gives};
+ghost use Rattle.jl_logic.specs.Answers.{Tells};
 ghost use Rattle.jl_reading.specs.Reading.{each_at};
 ghost use Rattle.jl_code.specs.Told.{told};
 ghost use Rattle.jl_code.specs.Operands as words;
@@ -55,7 +55,7 @@ fn table_cases(
     requires small { length code.now < 2 ^ 32 }
     requires placed { next ≤ length code.now }
     requires fits { (low +ℤ pos count) ≤ℤ pos (2 ^ 31) }
-    ensures exact { Gives told (λ x. x) result (each_at (words.table_case at code.now low) [] count next) }
+    ensures exact { Tells told result (each_at (words.table_case at code.now low) [] count next) }
     ensures within { IfOk result (λ x. (next ≤ x.1) × (x.1 ≤ length code.now)) }
 {
     let mut cases = Vec::new(alloc);
@@ -73,7 +73,7 @@ fn table_cases(
 pub fn table_at(alloc: Global, at: u32, code: &[u8], next: usize) -> Result<(Arg, usize), CodeFault>
     requires small { length code.now < 2 ^ 32 }
     requires placed { next ≤ length code.now }
-    ensures exact { Gives told (λ x. x) result (words.table_at at code.now next) }
+    ensures exact { Tells told result (words.table_at at code.now next) }
     ensures within { IfOk result (λ x. (next ≤ x.1) × (x.1 ≤ length code.now)) }
 {
     let (offset, next) = u32_at(at, code, padded(next))?;
@@ -136,7 +136,7 @@ fn lookup_cases(
 ) -> Result<(Items<(i32, u32)>, usize), CodeFault>
     requires small { length code.now < 2 ^ 32 }
     requires placed { next ≤ length code.now }
-    ensures exact { Gives told (λ x. x) result (each_at (words.lookup_case at code.now) [] count next) }
+    ensures exact { Tells told result (each_at (words.lookup_case at code.now) [] count next) }
     ensures within { IfOk result (λ x. (next ≤ x.1) × (x.1 ≤ length code.now)) }
 {
     let mut cases = Vec::new(alloc);
@@ -159,7 +159,7 @@ pub fn lookup_at(
 ) -> Result<(Arg, usize), CodeFault>
     requires small { length code.now < 2 ^ 32 }
     requires placed { next ≤ length code.now }
-    ensures exact { Gives told (λ x. x) result (words.lookup_at at code.now next) }
+    ensures exact { Tells told result (words.lookup_at at code.now next) }
     ensures within { IfOk result (λ x. (next ≤ x.1) × (x.1 ≤ length code.now)) }
 {
     let (offset, next) = u32_at(at, code, padded(next))?;

@@ -1,7 +1,7 @@
 //! The instructions of code from its start on.
 
 ghost use Rattle.std.specs.Prelude.{◌≡◌, ◌<◌, ◌^◌, length, Ok};
-ghost use Rattle.jl_logic.specs.Answers.{Gives};
+ghost use Rattle.jl_logic.specs.Answers.{Tells};
 ghost use Rattle.jl_code.specs.Told.{told};
 ghost use Rattle.jl_code.specs.Walking.{StopsAt, walk as walk_of};
 
@@ -35,7 +35,7 @@ fn stopped(instructions: Vec<Instr>, fault: CodeFault) -> Result<Walked, CodeFau
 /// Walks through the code from its start on.
 pub fn walk(alloc: Global, pool: &Pool, code: &[u8]) -> Result<Walked, CodeFault>
     requires { length code.now < 2 ^ 32 }
-    ensures { Gives told (λ x. x) result (Ok (walk_of pool.now code.now)) }
+    ensures { Tells told result (Ok (walk_of pool.now code.now)) }
 {
     let mut instructions = Vec::new(alloc);
     let mut at = 0;
