@@ -7,6 +7,7 @@ use Rattle.jl_frames.specs.declared.frame.RawItem.TheVariants as items
 use Rattle.jl_frames.specs.declared.form.Form.TheVariants as forms
 use Rattle.jl_frames.specs.Tags.{tag_rows, form_of}
 use Rattle.jl_frames.specs.Reading.{operand_at, item_of, item_at, delta_at, stated_at, full_at, change_at, frame_from, frame_at, frames_of}
+use Rattle.jl_frames.specs.Sound.{States, OffsetsRise}
 use Rattle.jl_frames.specs.Grammar.{item_bytes, Spells, IsFrames}
 
 no_frames : frames_of (0 ∷ 0 ∷ []) ≡ Ok []
@@ -198,3 +199,13 @@ two_frames = record {
   );
   whole = refl;
 }
+
+-- an append states one to three items, a full frame as many as its locals or more
+counts : States changes.Same 0 × States changes.One 1 × States changes.Append 3 × States (changes.Full 2) 4
+counts = (refl, refl, (omega arith, omega arith), (omega arith, omega arith))
+
+too_many : (States changes.Append 4 → ⊥) × (States (changes.Full 2) 1 → ⊥) × (States (changes.Chop 4) 0 → ⊥)
+too_many = (λ h. omega (arith, h.1), λ h. omega (arith, h.0), λ h. omega (arith, h.1))
+
+offsets_that_rise : OffsetsRise (record { offset = 3; change = changes.Same; items = [] } ∷ record { offset = 7; change = changes.Same; items = [] } ∷ [])
+offsets_that_rise = ((omega arith, tt), (tt, tt))

@@ -9,6 +9,3 @@ mod reading;
 pub use fault::FrameFault;
 pub use frame::{Change, Frame, RawItem};
 pub use reading::read_frames;
-
-#[cfg(test)]
-mod tests;

@@ -1,12 +1,13 @@
 //! Reading the content of a StackMapTable attribute (JVMS 4.7.4).
 
 ghost use Rattle.std.specs.Prelude.{◌≡◌, ◌≤◌, ◌<◌, ◌+◌, ◌*◌, ◌↔◌, List, [], length, IfOk, Ok, Err, Some};
-ghost use Rattle.jl_logic.specs.Answers.{Gives};
+ghost use Rattle.jl_logic.specs.Answers.{Gives, Tells};
 ghost use Rattle.jl_reading.specs.Reading.{each_at};
 ghost use Rattle.jl_frames.specs.declared.fault.FrameFault.{FrameFault};
 ghost use Rattle.jl_frames.specs.declared.frame.Frame.{Frame};
 ghost use Rattle.jl_frames.specs.declared.frame.RawItem.{RawItem};
 ghost use Rattle.jl_frames.specs.Grammar.{IsFrames};
+ghost use Rattle.jl_frames.specs.Sound.{AreSound};
 ghost use Rattle.jl_frames.specs.Tags.{form_of as form_of_tag};
 ghost use Rattle.jl_frames.specs.Reading.{told, item_of as item_behind, item_at as item_read, items_at as items_read, delta_at as delta_read, stated_at as stated_read, full_at as full_read, change_at as change_read, frame_from as frame_read, frame_at, frames_of};
 
@@ -21,7 +22,7 @@ use std::alloc::Global;
 #[tactic(auto, unfolding(crate::specs::Reading::item_of, crate::specs::Reading::operand_at))]
 fn item_of(place: usize, tag: u8, bytes: &[u8], at: usize) -> Result<(RawItem, usize), FrameFault>
     requires { at ≤ length bytes.now }
-    ensures exact { Gives told (λ x. x) result (item_behind place tag bytes.now at) }
+    ensures exact { Tells told result (item_behind place tag bytes.now at) }
     ensures within { IfOk result (λ x. x.1 ≤ length bytes.now) }
 {
     match tag {
@@ -42,7 +43,7 @@ fn item_of(place: usize, tag: u8, bytes: &[u8], at: usize) -> Result<(RawItem, u
 #[tactic(auto, unfolding(crate::specs::Reading::item_at))]
 fn item_at(bytes: &[u8], at: usize) -> Result<(RawItem, usize), FrameFault>
     requires { at ≤ length bytes.now }
-    ensures exact { (done : List RawItem) → Gives told (λ x. x) result (item_read bytes.now done at) }
+    ensures exact { (done : List RawItem) → Tells told result (item_read bytes.now done at) }
     ensures within { IfOk result (λ x. x.1 ≤ length bytes.now) }
 {
     let (tag, next) = byte_at::<FrameFault>(bytes, at)?;
@@ -75,7 +76,7 @@ fn items_at(
 fn delta_at(form: Form, tag: u8, bytes: &[u8], at: usize) -> Result<(u16, usize), FrameFault>
     requires placed { at ≤ length bytes.now }
     requires formed { form_of_tag tag ≡ Some form }
-    ensures exact { Gives told (λ x. x) result (delta_read form tag bytes.now at) }
+    ensures exact { Tells told result (delta_read form tag bytes.now at) }
     ensures within { IfOk result (λ x. x.1 ≤ length bytes.now) }
 {
     match form {
@@ -97,7 +98,7 @@ fn stated_at(
     at: usize,
 ) -> Result<((Change, Items<RawItem>), usize), FrameFault>
     requires { at ≤ length bytes.now }
-    ensures exact { Gives told (λ x. x) result (stated_read change count bytes.now at) }
+    ensures exact { Tells told result (stated_read change count bytes.now at) }
     ensures within { IfOk result (λ x. x.1 ≤ length bytes.now) }
 {
     let (items, next) = items_at(Vec::new(alloc), count, bytes, at)?;
@@ -112,7 +113,7 @@ fn full_at(
     at: usize,
 ) -> Result<((Change, Items<RawItem>), usize), FrameFault>
     requires { at ≤ length bytes.now }
-    ensures exact { Gives told (λ x. x) result (full_read bytes.now at) }
+    ensures exact { Tells told result (full_read bytes.now at) }
     ensures within { IfOk result (λ x. x.1 ≤ length bytes.now) }
 {
     let (local_count, at) = u16_at::<FrameFault>(bytes, at)?;
@@ -133,7 +134,7 @@ fn change_at(
 ) -> Result<((Change, Items<RawItem>), usize), FrameFault>
     requires placed { at ≤ length bytes.now }
     requires formed { form_of_tag tag ≡ Some form }
-    ensures exact { Gives told (λ x. x) result (change_read form tag bytes.now at) }
+    ensures exact { Tells told result (change_read form tag bytes.now at) }
     ensures within { IfOk result (λ x. x.1 ≤ length bytes.now) }
 {
     match form {
@@ -155,7 +156,7 @@ fn frame_from(
 ) -> Result<(Frame, usize), FrameFault>
     requires placed { at ≤ length bytes.now }
     requires room { base + 65536 < 4294967296 }
-    ensures exact { Gives told (λ x. x) result (frame_read base bytes.now at) }
+    ensures exact { Tells told result (frame_read base bytes.now at) }
     ensures within { IfOk result (λ x. x.1 ≤ length bytes.now) }
     ensures near { IfOk result (λ x. x.0.offset < base + 65536) }
 {
@@ -205,6 +206,8 @@ pub fn read_frames(alloc: Global, bytes: &[u8]) -> Result<Vec<Frame>, FrameFault
     ensures exact { Gives told (λ fs. fs.items) result (frames_of bytes.now) }
     ensures found { IfOk result (λ fs. IsFrames bytes.now fs.items) }
     ensures only { (fs : List Frame) → IsFrames bytes.now fs → Gives told (λ x. x.items) result (Ok fs) }
+    // What follows of frames that are read.
+    ensures sound { IfOk result (λ fs. AreSound fs.items) }
     // There is a fault exactly where there are no frames.
     ensures one { ((f : FrameFault) × (frames_of bytes.now ≡ Err f)) ↔ ((fs : List Frame) → IsFrames bytes.now fs → ⊥) }
 {
