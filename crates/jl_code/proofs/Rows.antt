@@ -1,5 +1,5 @@
 -- Worked rows of the definitions.
-use Rattle.std.proofs.Common.{◌≡◌, ℕ, arith, List, Result, [], ◌∷◌, Ok, Err, Some, None, true, false, refl}
+use Rattle.std.proofs.Common.{◌≡◌, ℕ, arith, inl, List, Result, [], ◌∷◌, Ok, Err, Some, None, true, false, refl}
 use Rattle.std.specs.Prelude.{pos, negsuc}
 use lib.Utf8.{encode}
 use Rattle.jl_reading.specs.Reading.{each_at}
@@ -13,6 +13,7 @@ use Rattle.jl_optable.specs.declared.form.Operands.TheVariants as kinds
 use Rattle.jl_names.specs.Text.{plain, has_no_lone_surrogate}
 use Rattle.jl_code.specs.declared.code.Arg.{Arg}
 use Rattle.jl_code.specs.declared.code.Instr.{Instr}
+use Rattle.jl_code.specs.Spelling.{InstrStands, IsCode}
 use Rattle.jl_code.specs.Sound.{PlacesRise, names_entry}
 use Rattle.jl_code.specs.PlaceTables.{index_in}
 use Rattle.jl_code.specs.Locals.{local_of}
@@ -229,3 +230,23 @@ two_places = (refl, refl, refl)
 
 places_that_rise : PlacesRise (record (instr 0 args.Nothing) { at = 0 } ∷ record (instr 0 args.Nothing) { at = 2 } ∷ [])
 places_that_rise = ((omega arith, tt), (tt, tt))
+
+-- ---- code by its spelling
+
+abbrev nop : Instr
+nop = instr ops.NOP args.Nothing
+
+nop_stands : InstrStands [] (0 ∷ []) 0 nop 1
+unfolding has_row operands_of
+nop_stands = inl (record {
+  place = refl;
+  plain = refl;
+  row = refl;
+  narrow = refl;
+  opcode = record { fits = omega arith; stands = record { there = refl; ends = refl; within = omega arith } };
+  operands = (refl, refl);
+})
+
+one_nop : IsCode [] to_void (0 ∷ []) [] (codes.Instructions (nop ∷ []))
+unfolding decoded
+one_nop = record { instrs = nop ∷ []; stand = (1, nop_stands, refl); some = omega arith; lead = refl; handled = refl; kind = refl }

@@ -1,11 +1,12 @@
 -- The definitions on worked rows.
-use Rattle.std.specs.Prelude.{◌≡◌, [], ◌∷◌, true, false, None, Ok, Err, codes, refl}
+use Rattle.std.specs.Prelude.{◌≡◌, [], ◌∷◌, true, false, None, Some, Ok, Err, codes, refl}
+use Rattle.std.proofs.Common.{arith}
 use Rattle.jl_names.specs.declared.fault.TextFault.TheVariants.{BadText}
 use Rattle.jl_names.specs.declared.types.BaseType.TheVariants.{Prim, Class}
 use Rattle.jl_names.specs.declared.types.FieldType.{FieldType}
 use Rattle.jl_names.specs.declared.types.Descriptor.TheVariants.{Field, Method}
 use Rattle.jl_names.specs.Names.{parts, names_a_class, names_a_field, names_a_method, package_of}
-use Rattle.jl_names.specs.Descriptors.{slots, type_bytes, brackets, name_end, base_at, type_at, param_at, params_at, result_at, method_at, field_at, descriptor_read}
+use Rattle.jl_names.specs.Descriptors.{IsDescriptor, class_in, slots, type_bytes, brackets, name_end, base_at, type_at, param_at, params_at, result_at, method_at, field_at, descriptor_read}
 
 -- ---- names
 
@@ -77,3 +78,22 @@ field_of_a_class = refl
 empty_part : descriptor_read (codes "La//b;") ≡ Err (BadText 3)
 unfolding descriptor_read field_at type_at base_at brackets name_end
 empty_part = refl
+
+-- ---- classes of types
+
+class_of_an_array : class_in (codes "[Lp/A;") (record { dims = 1; base = Class 2 5 }) ≡ Some (codes "p/A")
+class_of_an_array = refl
+
+no_class_of_an_int : class_in (codes "I") (record { dims = 0; base = Prim 73 }) ≡ None
+no_class_of_an_int = refl
+
+no_class_of_another_text : class_in (codes "I") (record { dims = 0; base = Class 1 4 }) ≡ None
+no_class_of_another_text = refl
+
+-- ---- descriptors by their spelling
+
+an_int_field : IsDescriptor (codes "I") (Field (record { dims = 0; base = Prim 73 }))
+an_int_field = record { few = omega arith; base = refl; stands = record { there = refl; ends = refl; within = omega arith } }
+
+no_void_field : IsDescriptor (codes "V") (Field (record { dims = 0; base = Prim 86 })) → ⊥
+no_void_field d = let b : false ≡ true = d.base in cc

@@ -1,5 +1,5 @@
 -- Descriptors (JVMS 4.3): how types spell, and how a descriptor is read from left to right.
-use Rattle.std.specs.Prelude.{◌≡◌, ℕ, zero, suc, ◌+◌, ◌-◌, ◌<◌, ◌≤◌, nat_lt, List, [], ◌∷◌, ◌++◌, length, take, drop, replicate, slice_index, Option, None, Some, Result, Ok, Err, Bool, true, false, not, ◌&&◌, ◌||◌, ◌==◌, IsTrue, if◌then◌else◌}
+use Rattle.std.specs.Prelude.{◌≡◌, ℕ, zero, suc, ◌+◌, ◌-◌, ◌<◌, ◌≤◌, nat_lt, nat_le, List, [], ◌∷◌, ◌++◌, length, take, drop, replicate, slice_index, Option, None, Some, Result, Ok, Err, Bool, true, false, not, ◌&&◌, ◌||◌, ◌==◌, IsTrue, if◌then◌else◌}
 use Rattle.jl_reading.specs.Reading.{◌>>=◌, Stands}
 use Rattle.jl_names.specs.declared.fault.TextFault.{TextFault}
 use Rattle.jl_names.specs.declared.fault.TextFault.TheVariants.{BadText}
@@ -43,6 +43,18 @@ base_bytes text (Class from to) = 76 ∷ between text from to ++ 59 ∷ []
 -- a [ for each dimension
 abbrev pub type_bytes : List ℕ → FieldType → List ℕ
 type_bytes text t = replicate t.dims 91 ++ base_bytes text t.base
+
+-- what stands between two places of a text, where both are places of it
+abbrev pub part : List ℕ → ℕ → ℕ → Option (List ℕ)
+part text from to = if nat_le from to && nat_le to (length text) then Some (between text from to) else None
+
+abbrev pub base_class : List ℕ → BaseType → Option (List ℕ)
+base_class text (Prim b) = None
+base_class text (Class from to) = part text from to
+
+-- the name of the class that a type in a text names, which of an array is that of its elements
+abbrev pub class_in : List ℕ → FieldType → Option (List ℕ)
+class_in text t = base_class text t.base
 
 -- The base is right, where it stands at a place.
 abbrev pub IsBase : List ℕ → ℕ → BaseType → Type 0

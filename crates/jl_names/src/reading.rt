@@ -1,7 +1,7 @@
 //! Reading descriptors of fields and methods (JVMS 4.3).
 
 ghost use Rattle.std.specs.Prelude.{◌≡◌, ◌≤◌, ◌<◌, ◌+◌, List, ℕ, length, drop, true, Ok, Err, IfOk};
-ghost use Rattle.jl_logic.specs.Answers.{Gives};
+ghost use Rattle.jl_logic.specs.Answers.{Tells};
 ghost use Rattle.jl_names.specs.Bad.{IsBadAt};
 ghost use Rattle.jl_names.specs.Text.{told};
 ghost use Rattle.jl_names.specs.declared.fault.TextFault.TheVariants.{BadText};
@@ -20,18 +20,18 @@ pub fn descriptor(alloc: Global, text: &[u8]) -> Result<Descriptor, TextFault>
     // What is read is spelled so.
     ensures found { IfOk result (λ d. IsDescriptor text.now d) }
     // What is spelled so is read, unless memory runs out.
-    ensures only { (d : Descriptor) → IsDescriptor text.now d → Gives told (λ x. x) result (Ok d) }
+    ensures only { (d : Descriptor) → IsDescriptor text.now d → Tells told result (Ok d) }
     // Where it stops.
     ensures bad { (at : ℕ) → result ≡ Err (BadText at) → IsBadAt IsSomeDescriptor text.now at }
     // By reading from left to right.
-    ensures exact { Gives told (λ x. x) result (descriptor_read text.now) }
+    ensures exact { Tells told result (descriptor_read text.now) }
 {
     whole(alloc, text)
 }
 
 #[tactic(auto, unfolding(crate::specs::Descriptors::descriptor_read))]
 fn whole(alloc: Global, text: &[u8]) -> Result<Descriptor, TextFault>
-    ensures { Gives told (λ x. x) result (descriptor_read text.now) }
+    ensures { Tells told result (descriptor_read text.now) }
 {
     let (descriptor, next) = front(alloc, text)?;
     if next != text.len() {
@@ -42,7 +42,7 @@ fn whole(alloc: Global, text: &[u8]) -> Result<Descriptor, TextFault>
 
 /// The descriptor with which a text begins, and the place after it.
 fn front(alloc: Global, text: &[u8]) -> Result<(Descriptor, usize), TextFault>
-    ensures { Gives told (λ x. x) result (front_of text.now) }
+    ensures { Tells told result (front_of text.now) }
 {
     if has_at(text, 0, b'(') {
         method_at(alloc, text)
@@ -178,7 +178,7 @@ fn param_at(taken: usize, text: &[u8], at: usize) -> Result<(FieldType, usize), 
 /// The types of parameters from place 1 up to the `)`, and its place.
 fn params_at(alloc: Global, text: &[u8]) -> Result<(Params, usize), TextFault>
     requires { 1 ≤ length text.now }
-    ensures exact { Gives told (λ x. x) result (readings.params_at (length text.now) 0 text.now 1) }
+    ensures exact { Tells told result (readings.params_at (length text.now) 0 text.now 1) }
     ensures within { IfOk result (λ x. x.1 < length text.now) }
 {
     let mut types = Vec::new(alloc);
@@ -209,7 +209,7 @@ fn result_at(text: &[u8], at: usize) -> Result<(Option<FieldType>, usize), TextF
 #[tactic(auto, unfolding(crate::specs::Descriptors::method_at))]
 fn method_at(alloc: Global, text: &[u8]) -> Result<(Descriptor, usize), TextFault>
     requires { 1 ≤ length text.now }
-    ensures { Gives told (λ x. x) result (readings.method_at text.now) }
+    ensures { Tells told result (readings.method_at text.now) }
 {
     let (params, close) = params_at(alloc, text)?;
     let (result, next) = result_at(text, close + 1)?;
@@ -218,7 +218,7 @@ fn method_at(alloc: Global, text: &[u8]) -> Result<(Descriptor, usize), TextFaul
 
 #[tactic(auto, unfolding(crate::specs::Descriptors::field_at))]
 fn field_at(text: &[u8]) -> Result<(Descriptor, usize), TextFault>
-    ensures { Gives told (λ x. x) result (readings.field_at text.now) }
+    ensures { Tells told result (readings.field_at text.now) }
 {
     let (found, next) = type_at(text, 0)?;
     Ok((Descriptor::Field(found), next))

@@ -2,7 +2,7 @@
 
 ghost use Rattle.std.specs.Prelude.{◌≡◌, ◌≤◌, ◌<◌, ℕ, List, length, ◌++◌, Ok, Err, IfOk, OnOk, IsOkUnless, IsTrue, encode_utf8};
 ghost use Rattle.std.specs.String.{string_bytes};
-ghost use Rattle.jl_logic.specs.Answers.{Gives};
+ghost use Rattle.jl_logic.specs.Answers.{Tells};
 ghost use Rattle.jl_names.specs.Text.{units_read, unit_at, AreUnits, IsText, unit_bytes, text_bytes, told, plain, has_no_lone_surrogate};
 ghost use Rattle.jl_names.specs.Text as texts;
 ghost use Rattle.jl_names.specs.Bad.{IsBadAt};
@@ -20,17 +20,17 @@ pub fn units_of(alloc: Global, bytes: &[u8]) -> Result<Units, TextFault>
     // What is read is spelled so.
     ensures found { IfOk result (λ units. AreUnits units × (text_bytes units ≡ bytes.now)) }
     // What is spelled so is read, unless memory runs out.
-    ensures only { (units : List ℕ) → AreUnits units → text_bytes units ≡ bytes.now → Gives told (λ all. all) result (Ok units) }
+    ensures only { (units : List ℕ) → AreUnits units → text_bytes units ≡ bytes.now → Tells told result (Ok units) }
     // Where it stops.
     ensures bad { (at : ℕ) → result ≡ Err (BadText at) → IsBadAt IsText bytes.now at }
     // By reading from left to right.
-    ensures exact { Gives told (λ units. units) result (units_read bytes.now) }
+    ensures exact { Tells told result (units_read bytes.now) }
 {
     all_units(alloc, bytes)
 }
 
 fn all_units(alloc: Global, bytes: &[u8]) -> Result<Units, TextFault>
-    ensures { Gives told (λ units. units) result (units_read bytes.now) }
+    ensures { Tells told result (units_read bytes.now) }
 {
     let mut units = Vec::new(alloc);
     let mut at = 0;

@@ -1,6 +1,8 @@
 //! Types and descriptors as values (JVMS 4.3).
 
 ghost use Rattle.std.specs.Prelude.{◌≡◌};
+ghost use Rattle.std.specs.Option.{option_copied};
+ghost use Rattle.jl_names.specs.Descriptors.{class_in as class_named};
 
 use std::marker::Model;
 
@@ -18,6 +20,19 @@ pub enum BaseType {
 pub struct FieldType {
     pub dims: u8,
     pub base: BaseType,
+}
+
+impl FieldType {
+    /// The name of the class that the type names in the text that it was read from: of an array its elements' class.
+    /// None where it names none, or where the text ends before the name.
+    pub fn class_in<'a>(&self, text: &'a [u8]) -> Option<&'a [u8]>
+        ensures { option_copied result ≡ class_named text.now self.now }
+    {
+        match self.base {
+            BaseType::Class(from, to) => text.get(from..to),
+            BaseType::Prim(_) => None,
+        }
+    }
 }
 
 /// The types of parameters, which contracts see as their list.
