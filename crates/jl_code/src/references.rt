@@ -3,14 +3,13 @@
 ghost use Rattle.std.specs.Prelude.{◌≡◌, Ok, Some};
 ghost use Rattle.std.specs.Option.{option_copied};
 ghost use Rattle.jl_logic.specs.Answers.{Tells};
-ghost use Rattle.jl_names.specs.Descriptors as types;
 ghost use Rattle.jl_code.specs.Told.{told};
 ghost use Rattle.jl_code.specs.References as words;
 
 use crate::fault::CodeFault;
 use crate::members::{class_text, member_desc, member_name, member_tag};
 use crate::types::slots;
-use jl_names::{Descriptor, TextFault, descriptor};
+use jl_names::{Descriptor, TextFault, brackets, descriptor};
 use jl_optable::ops;
 use jl_pool::Pool;
 use jl_prim::Name;
@@ -103,20 +102,6 @@ fn class_dims(pool: &Pool, i: u16) -> Option<usize>
 {
     let name = class_text(pool, i)?;
     Some(brackets(name.as_bytes()))
-}
-
-/// How many `[` begin a text.
-#[tactic(auto, unfolding(jl_names::specs::Descriptors::brackets))]
-fn brackets(text: &[u8]) -> usize
-    ensures { result ≡ types.brackets text.now }
-{
-    let mut count = 0;
-    let mut rest = text;
-    while let [b'[', others @ ..] = rest {
-        count += 1;
-        rest = others;
-    }
-    count
 }
 
 /// Whether the entry at an index is a class that `new`, `anewarray`, `checkcast` or `instanceof` takes.

@@ -7,16 +7,6 @@ ghost use Rattle.jl_code.specs.References as words;
 
 use jl_names::{BaseType, Descriptor, FieldType};
 
-/// How many slots a type takes.
-fn slots_of(found: &FieldType) -> usize
-    ensures { result ≡ types.slots_of found.now }
-{
-    match found.base {
-        BaseType::Prim(b'J' | b'D') if found.dims == 0 => 2,
-        _ => 1,
-    }
-}
-
 /// How many slots types take.
 pub fn slots(all: &[FieldType]) -> usize
     ensures exact { result ≡ types.slots all.now }
@@ -25,7 +15,7 @@ pub fn slots(all: &[FieldType]) -> usize
     let mut count = 0;
     let mut rest = all;
     while let [found, others @ ..] = rest {
-        count += slots_of(found);
+        count += found.slots();
         rest = others;
     }
     count

@@ -13,7 +13,7 @@ mod utf16;
 pub use dots::{dotted, slashed};
 pub use fault::{CopyEnd, TextFault};
 pub use name::{is_class_name, is_field_name, is_method_name, package_of};
-pub use reading::descriptor;
+pub use reading::{brackets, descriptor};
 pub use text::{bytes_of, is_paired, plain_of, plain_text, units_of};
 pub use types::{BaseType, Descriptor, FieldType, Params};
 pub use units::Units;

@@ -63,25 +63,14 @@ fn is_primitive(byte: u8) -> bool
     matches!(byte, b'B' | b'C' | b'D' | b'F' | b'I' | b'J' | b'S' | b'Z')
 }
 
-/// How many slots a type takes.
-fn slots_of(found: &FieldType) -> usize
-    ensures { result ≡ readings.slots_of found.now }
-{
-    match found.base {
-        BaseType::Prim(b'J' | b'D') if found.dims == 0 => 2,
-        _ => 1,
-    }
-}
-
-/// How many `[` stand from a place on.
+/// How many `[` begin a text: the dimensions of an array's descriptor.
 #[tactic(auto, unfolding(crate::specs::Descriptors::brackets))]
-fn brackets_at(text: &[u8], at: usize) -> usize
-    requires { at ≤ length text.now }
-    ensures count { result ≡ readings.brackets (drop at text.now) }
-    ensures within { at + result ≤ length text.now }
+pub fn brackets(text: &[u8]) -> usize
+    ensures count { result ≡ readings.brackets text.now }
+    ensures within { result ≤ length text.now }
 {
     let mut count = 0;
-    let mut rest = &text[at..];
+    let mut rest = text;
     while let [b'[', others @ ..] = rest {
         count += 1;
         rest = others;
@@ -142,7 +131,7 @@ fn type_at(text: &[u8], at: usize) -> Result<(FieldType, usize), TextFault>
     ensures exact { result ≡ readings.type_at text.now at }
     ensures within { IfOk result (λ x. (at < x.1) × (x.1 ≤ length text.now)) }
 {
-    let dims = brackets_at(text, at);
+    let dims = brackets(&text[at..]);
     if dims > 255 {
         return Err(TextFault::BadText(at + 255));
     }
@@ -169,7 +158,7 @@ fn param_at(taken: usize, text: &[u8], at: usize) -> Result<(FieldType, usize), 
         return Err(TextFault::BadText(at));
     }
     let (param, next) = type_at(text, at)?;
-    if taken + slots_of(&param) > 255 {
+    if taken + param.slots() > 255 {
         return Err(TextFault::BadText(at));
     }
     Ok((param, next))
@@ -187,7 +176,7 @@ fn params_at(alloc: Global, text: &[u8]) -> Result<(Params, usize), TextFault>
     while !has_at(text, at, b')') {
         let (param, next) = param_at(taken, text, at)?;
         types.push(param)?;
-        taken += slots_of(&param);
+        taken += param.slots();
         at = next;
     }
     Ok((Params::from_vec(types), at))

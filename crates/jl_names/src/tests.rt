@@ -177,6 +177,24 @@ fn types_of_a_method(rt: HostRuntime) {
     assert!(rt; says_what_it_spells(rt.alloc()));
 }
 
+#[test]
+fn classes_and_slots_of_types(rt: HostRuntime) {
+    let text: &[u8] = b"[[Lp/A;";
+    let class = FieldType {
+        dims: 2,
+        base: BaseType::Class(3, 6),
+    };
+    let long = FieldType {
+        dims: 0,
+        base: BaseType::Prim(b'J'),
+    };
+    assert_eq!(rt; class.class_in(text), Some(b"p/A".as_slice()));
+    assert_eq!(rt; long.class_in(text), None);
+    assert_eq!(rt; class.slots(), 1);
+    assert_eq!(rt; long.slots(), 2);
+    assert_eq!(rt; brackets(text), 2);
+}
+
 fn is_named(text: &[u8], class: bool, field: bool, method: bool) -> bool {
     is_class_name(text) == class && is_field_name(text) == field && is_method_name(text) == method
 }

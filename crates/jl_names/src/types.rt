@@ -2,7 +2,7 @@
 
 ghost use Rattle.std.specs.Prelude.{◌≡◌};
 ghost use Rattle.std.specs.Option.{option_copied};
-ghost use Rattle.jl_names.specs.Descriptors.{class_in as class_named};
+ghost use Rattle.jl_names.specs.Descriptors.{class_in as class_named, slots_of};
 
 use std::marker::Model;
 
@@ -23,6 +23,16 @@ pub struct FieldType {
 }
 
 impl FieldType {
+    /// How many slots a value of the type takes (JVMS 2.6.1).
+    pub fn slots(&self) -> usize
+        ensures { result ≡ slots_of self.now }
+    {
+        match self.base {
+            BaseType::Prim(b'J' | b'D') if self.dims == 0 => 2,
+            _ => 1,
+        }
+    }
+
     /// The name of the class that the type names in the text that it was read from: of an array its elements' class.
     /// None where it names none, or where the text ends before the name.
     pub fn class_in<'a>(&self, text: &'a [u8]) -> Option<&'a [u8]>

@@ -14,7 +14,7 @@ returns-in_err-param-clause-exact c =
 
 pub loop-types-preserved : goal.loop-types-preserved
 loop-types-preserved c =
-    rw (c.in_ok-push.ensures.items, c.slots_of-taken.ensures) (reads_more c.args.text.now c.loop-types.types.items c.loop-types.taken c.loop-types.at c.in_ok-param.param c.in_ok-param.next c.loop-types.invariant
+    rw (c.in_ok-push.ensures.items, c.slots-taken.ensures) (reads_more c.args.text.now c.loop-types.types.items c.loop-types.taken c.loop-types.at c.in_ok-param.param c.in_ok-param.next c.loop-types.invariant
     (sym c.has_at.ensures ∙ c.loop-types-test.true) (sym c.in_ok-param.ensures.exact) c.in_ok-param.ensures.within.0 c.in_ok-param.ensures.within.1 c.in_ok-param.ensures.few)
 
 pub returns-clause-exact : goal.returns-clause-exact

@@ -1,10 +1,10 @@
 use Rattle.std.proofs.Common.{◌≡◌, ◌+◌, length}
-use Rattle.jl_names.specs.Descriptors as types
-use Rattle.jl_code.proofs.references.brackets.Given as goal
+use Rattle.jl_names.specs.Descriptors.{brackets}
+use Rattle.jl_names.proofs.reading.brackets.Given as goal
 
 abbrev pub invariant-loop-rest : goal.invariant-loop-rest
 invariant-loop-rest l = record {
-  counted : l.count + types.brackets l.rest ≡ types.brackets l.text;
+  counted : l.count + brackets l.rest ≡ brackets l.text;
   within : l.count + length l.rest ≡ length l.text;
 }
 
