@@ -18,8 +18,3 @@ pub use text::{bytes_of, is_paired, plain_of, plain_text, units_of};
 pub use types::{BaseType, Descriptor, FieldType, Params};
 pub use units::Units;
 pub use utf16::utf16_of;
-
-#[cfg(test)]
-mod tests;
-#[cfg(test)]
-mod utf16_tests;
