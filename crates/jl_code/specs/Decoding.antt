@@ -24,6 +24,7 @@ leads_right is_start (args.Target place) = is_start place
 leads_right is_start (args.Switch other cases) = is_start other && list_all (λ case. is_start case.1) cases
 leads_right is_start _ = true
 
+-- the first item that passes a test
 unfoldable pub first_where : {X : Type 0} → (X → Bool) → List X → Option X
 first_where test [] = None
 first_where test (x ∷ xs) = if test x then Some x else first_where test xs
@@ -45,6 +46,7 @@ wrong_handler pool code is_start handlers = position (λ h. not (is_right_handle
 abbrev pub first_stub : List Entry → List Instr → Option ℕ
 first_stub pool instrs = option_map (λ i. i.op) (first_where (makes_stub pool) instrs)
 
+-- a stub by an instruction with this opcode, or else the instructions
 abbrev pub stub_or : List Instr → Option ℕ → Code
 stub_or instrs None = codes.Instructions instrs
 stub_or instrs (Some op) = codes.Stub (Some op)
@@ -58,6 +60,7 @@ abbrev pub unless : Option CodeFault → Result Code CodeFault → Result Code C
 unless (Some f) later = Err f
 unless None later = later
 
+-- the fault of a code without a byte
 abbrev pub empty : List ℕ → Option CodeFault
 empty [] = Some faults.Empty
 empty (b ∷ bs) = None
@@ -70,5 +73,6 @@ judged pool desc code handlers is_start walked =
     (unless (option_map faults.BadRange (wrong_handler pool code is_start handlers))
     (Ok (kind_of pool desc walked.instructions))))
 
+-- the code of a method from its bytes on: what it is, or its first fault
 unfoldable pub code_of : List Entry → List ℕ → List ℕ → List Handler → Result Code CodeFault
 code_of pool desc code handlers = unless (empty code) (judged pool desc code handlers (stands (places code)) (walk pool code))

@@ -33,6 +33,7 @@ short_at at code next = do
   n ← operand_at at 2 code next
   Ok (args.Number (cast_signed w16 n.0), n.1)
 
+-- a local in k bytes
 unfoldable pub local_at : ℕ → ℕ → List ℕ → ℕ → Result (Arg × ℕ) CodeFault
 local_at at k code next = do
   local ← operand_at at k code next
@@ -43,12 +44,15 @@ abbrev pub long_or_index : ℕ → Option ℤ → Arg
 long_or_index i (Some value) = args.Long value
 long_or_index i None = args.Index i
 
+-- what an index means as an operand: the long of ldc2_w, or itself
 abbrev pub index_arg : List Entry → ℕ → ℕ → Arg
 index_arg pool op i = if op == ops.LDC2_W then long_or_index i (long_of pool i) else args.Index i
 
+-- an index that the instruction takes, as its operand
 abbrev pub named : List Entry → ℕ → ℕ → ℕ → ℕ → Result (Arg × ℕ) CodeFault
 named pool at op i next = if is_right_index pool op i then Ok (index_arg pool op i, next) else Err (faults.BadIndex at)
 
+-- an index in k bytes
 unfoldable pub index_at : List Entry → ℕ → ℕ → ℕ → List ℕ → ℕ → Result (Arg × ℕ) CodeFault
 index_at pool at op k code next = do
   i ← operand_at at k code next
@@ -116,15 +120,18 @@ wide_at at code next = do
   arg ← wide_arg_at at op.0 code op.1
   Ok (record { at = at; op = op.0; wide = true; arg = arg.0 }, arg.1)
 
+-- an instruction that is not widened, behind its opcode
 unfoldable pub plain_at : List Entry → ℕ → ℕ → Operands → List ℕ → ℕ → Result (Instr × ℕ) CodeFault
 plain_at pool at op operands code next = do
   arg ← arg_at pool at op operands code next
   Ok (record { at = at; op = op; wide = false; arg = arg.0 }, arg.1)
 
+-- an instruction behind its opcode, by its row
 abbrev pub form_at : List Entry → ℕ → Option Form → List ℕ → ℕ → Result (Instr × ℕ) CodeFault
 form_at pool at None code next = Err (faults.UnknownOp at)
 form_at pool at (Some form) code next = if form.op == ops.WIDE then wide_at at code next else plain_at pool at form.op form.operands code next
 
+-- the instruction at a place, and the place after it
 unfoldable pub instr_at : List Entry → List ℕ → ℕ → Result (Instr × ℕ) CodeFault
 instr_at pool code at = do
   op ← operand_at at 1 code at

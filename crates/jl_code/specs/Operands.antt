@@ -34,6 +34,7 @@ inc_at at code next = do
   n ← operand_at at 1 code local.1
   Ok (args.Inc local.0 (cast_signed w8 n.0), n.1)
 
+-- the same, widened
 unfoldable pub wide_inc_at : ℕ → List ℕ → ℕ → Result (Arg × ℕ) CodeFault
 wide_inc_at at code next = do
   local ← operand_at at 2 code next

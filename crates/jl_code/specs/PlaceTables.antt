@@ -6,6 +6,7 @@ abbrev pub IsIndexOf : List ℕ → ℕ → Option ℕ → Type 0
 IsIndexOf starts pc None = (i : ℕ) → slice_get starts i ≡ Some pc → ⊥
 IsIndexOf starts pc (Some i) = slice_get starts i ≡ Some pc
 
+-- an option in an option as one
 abbrev pub joined : Option (Option ℕ) → Option ℕ
 joined None = None
 joined (Some found) = found

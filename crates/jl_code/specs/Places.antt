@@ -53,12 +53,14 @@ size_of kinds.Dynamic = 4
 size_of kinds.Multi = 3
 size_of _ = 0
 
+-- the place behind operands of a kind
 unfoldable pub end_at : ℕ → List ℕ → Operands → ℕ → Result ℕ CodeFault
 end_at at code kinds.Table next = table_end at code next
 end_at at code kinds.Lookup next = lookup_end at code next
 end_at at code kinds.Wide next = wide_end at code next
 end_at at code operands next = whole_to at code (next + size_of operands)
 
+-- the place behind the operands of a row
 abbrev pub form_end : ℕ → List ℕ → Option Form → ℕ → Result ℕ CodeFault
 form_end at code None next = Err (faults.UnknownOp at)
 form_end at code (Some form) next = end_at at code form.operands next

@@ -13,6 +13,7 @@ use Rattle.jl_pool.specs.declared.entry.Entry.{Entry}
 use Rattle.jl_pool.specs.Pool.{tag_of, text_of, paired_text, class_of, name_and_type_of, member_of}
 use Rattle.jl_optable.specs.declared.ops.TheConstants as ops
 
+-- there is an entry, with this tag
 abbrev pub has_tag : ℕ → Option ℕ → Bool
 has_tag tag None = false
 has_tag tag (Some found) = found == tag
@@ -30,6 +31,7 @@ class_at pool i = class_text pool (class_of pool i)
 
 -- ---- members
 
+-- the tag among the parts of a member
 abbrev pub first_of : Option (ℕ × ℕ × ℕ) → Option ℕ
 first_of None = None
 first_of (Some member) = Some member.0
@@ -43,6 +45,7 @@ abbrev pub named_by : List Entry → Option (ℕ × ℕ × ℕ) → Option (ℕ 
 named_by pool None = None
 named_by pool (Some member) = name_and_type_of pool member.2
 
+-- the text of a name, by the indices of name and descriptor
 abbrev pub name_text : List Entry → Option (ℕ × ℕ) → Option (List ℕ)
 name_text pool None = None
 name_text pool (Some named) = text_of pool named.0
@@ -52,6 +55,7 @@ abbrev pub desc_text : List Entry → Option (ℕ × ℕ) → Option (List ℕ)
 desc_text pool None = None
 desc_text pool (Some named) = paired_text pool named.1
 
+-- the text of the class among the parts of a member
 abbrev pub owner_text : List Entry → Option (ℕ × ℕ × ℕ) → Option (List ℕ)
 owner_text pool None = None
 owner_text pool (Some member) = class_at pool member.1
@@ -75,17 +79,21 @@ abbrev pub descriptor_or_none : Result Descriptor TextFault → Option Descripto
 descriptor_or_none (Ok d) = Some d
 descriptor_or_none (Err f) = None
 
+-- what a text says as a descriptor, where there is one and it is one
 abbrev pub described : Option (List ℕ) → Option Descriptor
 described None = None
 described (Some text) = descriptor_or_none (descriptor_read text)
 
+-- what the descriptor of a member says
 abbrev pub member_type : List Entry → ℕ → Option Descriptor
 member_type pool i = described (member_desc pool i)
 
+-- the descriptor of a field
 abbrev pub is_field_type : Option Descriptor → Bool
 is_field_type (Some (Field t)) = true
 is_field_type _ = false
 
+-- the descriptor of a method
 abbrev pub is_method_type : Option Descriptor → Bool
 is_method_type (Some (Method params result)) = true
 is_method_type _ = false
@@ -97,10 +105,12 @@ is_float t = (t.dims == 0) && is_float_base t.base where
   is_float_base (Prim b) = (b == 70) || (b == 68)
   is_float_base (Class from to) = false
 
+-- a result that is F or D
 abbrev pub is_float_result : Option FieldType → Bool
 is_float_result None = false
 is_float_result (Some t) = is_float t
 
+-- a field that is F or D
 abbrev pub is_float_field : Option Descriptor → Bool
 is_float_field (Some (Field t)) = is_float t
 is_float_field _ = false
@@ -116,6 +126,7 @@ has_float _ = false
 abbrev pub init : List ℕ
 init = 60 ∷ 105 ∷ 110 ∷ 105 ∷ 116 ∷ 62 ∷ []
 
+-- the first byte is a <
 abbrev pub begins_with_angle : List ℕ → Bool
 begins_with_angle [] = false
 begins_with_angle (b ∷ bs) = b == 60
@@ -130,6 +141,7 @@ abbrev pub brackets_or_none : Option (List ℕ) → Option ℕ
 brackets_or_none None = None
 brackets_or_none (Some name) = Some (brackets name)
 
+-- how many dimensions a class has, which are the [ of its name
 abbrev pub class_dims : List Entry → ℕ → Option ℕ
 class_dims pool i = brackets_or_none (class_at pool i)
 
@@ -143,6 +155,7 @@ is_loadable pool i = list_any (λ tag. has_tag tag (tag_of pool i)) (3 ∷ 4 ∷
 abbrev pub is_loadable_wide : List Entry → ℕ → Bool
 is_loadable_wide pool i = list_any (λ tag. has_tag tag (tag_of pool i)) (5 ∷ 6 ∷ 17 ∷ [])
 
+-- a field with the descriptor of one
 abbrev pub is_field : List Entry → ℕ → Bool
 is_field pool i = has_tag 9 (member_tag pool i) && is_field_type (member_type pool i)
 
@@ -153,6 +166,7 @@ has_method_tag op tag =
     else if op == ops.INVOKEINTERFACE then has_tag 11 tag
     else has_tag 10 tag || has_tag 11 tag
 
+-- a method that an invoke takes, by its tag, its name and its descriptor
 abbrev pub is_method : List Entry → ℕ → ℕ → Bool
 is_method pool op i = has_method_tag op (member_tag pool i) && (may_invoke op (member_name pool i) && is_method_type (member_type pool i))
 
@@ -161,6 +175,7 @@ abbrev pub is_slot_count : ℕ → Option Descriptor → Bool
 is_slot_count count (Some (Method params result)) = count == 1 + slots params
 is_slot_count count _ = false
 
+-- there is a class, with dimensions that are right
 abbrev pub is_dims : (ℕ → Bool) → Option ℕ → Bool
 is_dims right None = false
 is_dims right (Some dims) = right dims

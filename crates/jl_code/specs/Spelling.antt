@@ -62,6 +62,7 @@ pub record LeadsTo (code : List ℕ) (at k : ℕ) (w : Width) (next place end : 
   pub counted : pos at +ℤ cast_signed w offset ≡ pos place
   pub inside : place < length code
 
+-- an offset whose place is the operand
 pub record IsBranch (code : List ℕ) (at k : ℕ) (w : Width) (next : ℕ) (arg : Arg) (end : ℕ) : Type 0 where
   pub place : ℕ
   pub leads : LeadsTo code at k w next place end

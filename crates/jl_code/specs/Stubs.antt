@@ -1,4 +1,4 @@
--- Which instructions make a method a stub: those that compute with F or D, and those of computed constants and calls.
+-- Which instructions (JVMS 6.5) make a method a stub: those that compute with F or D, and those of computed constants and calls.
 use Rattle.std.specs.Prelude.{ℕ, List, [], ◌∷◌, Option, None, Some, Bool, false, ◌&&◌, ◌||◌, ◌==◌, if◌then◌else◌, ℤ, pos, negsuc}
 use Rattle.std.specs.List.{list_any}
 use Rattle.jl_pool.specs.declared.entry.Entry.{Entry}
@@ -27,11 +27,13 @@ abbrev pub is_float_array : ℤ → Bool
 is_float_array (pos n) = is_within 6 7 n
 is_float_array (negsuc n) = false
 
+-- an operand makes a stub: an array of floats, or what is named
 abbrev pub arg_makes_stub : List Entry → ℕ → Arg → Bool
 arg_makes_stub pool op (args.Number n) = (op == ops.NEWARRAY) && is_float_array n
 arg_makes_stub pool op (args.Index i) = names_stub pool op i
 arg_makes_stub pool op _ = false
 
+-- a row that makes a stub, whatever the operands are
 abbrev pub row_makes_stub : Option Form → Bool
 row_makes_stub None = false
 row_makes_stub (Some form) = form.stub

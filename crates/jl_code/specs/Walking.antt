@@ -7,6 +7,7 @@ use Rattle.jl_code.specs.declared.walking.Walked.{Walked}
 use Rattle.jl_code.specs.Told.{told}
 use Rattle.jl_code.specs.Instructions.{instr_at}
 
+-- instructions, and why there are no more
 abbrev pub up_to : List Instr → Option CodeFault → Walked
 up_to instrs fault = record { instructions = instrs; fault = fault }
 

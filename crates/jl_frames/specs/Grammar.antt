@@ -32,6 +32,7 @@ ItemFits items.UninitThis = ⊤
 ItemFits (items.Object i) = i < 65536
 ItemFits (items.Uninit at) = at < 65536
 
+-- the bytes of items, one after the other
 abbrev pub items_bytes : List RawItem → List ℕ
 items_bytes = flat_map item_bytes
 

@@ -42,6 +42,7 @@ item_of place tag bytes at =
     else if tag == 8 then operand_at items.Uninit bytes at
     else Err (faults.BadItem place)
 
+-- the item at a place
 unfoldable pub item_at : List ℕ → List RawItem → ℕ → Result (RawItem × ℕ) FrameFault
 item_at bytes done at = do
   tag ← number_at faults.Short 1 bytes at
@@ -107,6 +108,7 @@ abbrev pub base_after : ℕ → List Frame → ℕ
 base_after base [] = base
 base_after base (f ∷ fs) = base_after (f.offset + 1) fs
 
+-- the frame at a place, behind those before it
 unfoldable pub frame_at : List ℕ → List Frame → ℕ → Result (Frame × ℕ) FrameFault
 frame_at bytes done at = frame_from (base_after 0 done) bytes at
 

@@ -4,6 +4,7 @@ use Rattle.jl_frames.specs.declared.form.Form.{Form}
 use Rattle.jl_frames.specs.declared.form.Form.TheVariants as forms
 use Rattle.jl_frames.specs.declared.form.TagRow.{TagRow}
 
+-- the tags of a form, from the first to the last
 abbrev row : ℕ → ℕ → Form → TagRow
 row first last form = record { first = first; last = last; form = form }
 
@@ -19,6 +20,7 @@ tag_rows =
     ∷ row 255 255 forms.Full
     ∷ []
 
+-- the tag is one of a row's
 abbrev pub has_tag : ℕ → TagRow → Bool
 has_tag tag r = nat_le r.first tag && nat_le tag r.last
 

@@ -1,4 +1,4 @@
--- Where a text stops to be one of a form.
+-- Where a text stops to be one of a form, as of descriptors (JVMS 4.3) or of modified UTF-8 (JVMS 4.4.7).
 use Rattle.std.specs.Prelude.{◌≡◌, ℕ, ◌+◌, ◌<◌, List, ◌++◌, length, take, ◌⊎◌}
 
 -- the text ends too early

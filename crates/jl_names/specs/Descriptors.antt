@@ -21,6 +21,7 @@ is_wide t = (t.dims == 0) && is_wide_base t.base where
   is_wide_base (Prim b) = (b == 74) || (b == 68)
   is_wide_base (Class from to) = false
 
+-- how many slots a value of the type takes
 abbrev pub slots_of : FieldType → ℕ
 slots_of t = if is_wide t then 2 else 1
 
@@ -48,6 +49,7 @@ type_bytes text t = replicate t.dims 91 ++ base_bytes text t.base
 abbrev pub part : List ℕ → ℕ → ℕ → Option (List ℕ)
 part text from to = if nat_le from to && nat_le to (length text) then Some (between text from to) else None
 
+-- the name that a base names, where it is a class
 abbrev pub base_class : List ℕ → BaseType → Option (List ℕ)
 base_class text (Prim b) = None
 base_class text (Class from to) = part text from to
@@ -97,6 +99,7 @@ IsSomeDescriptor text = (d : Descriptor) × IsDescriptor text d
 
 -- ---- reading
 
+-- this byte stands at the place
 abbrev pub has_at : List ℕ → ℕ → ℕ → Bool
 has_at text at b = nat_lt at (length text) && (slice_index text at == b)
 
@@ -146,17 +149,20 @@ params_at (suc n) taken text at = if has_at text at 41 then Ok ([], at) else (do
   ts ← params_at n (taken + slots_of t.0) text t.1
   Ok (t.0 ∷ ts.0, ts.1))
 
+-- the result behind the parameters, where V is none
 unfoldable pub result_at : List ℕ → ℕ → Result (Option FieldType × ℕ) TextFault
 result_at text at = if has_at text at 86 then Ok (None, at + 1) else (do
   t ← type_at text at
   Ok (Some t.0, t.1))
 
+-- the parameters and the result of a method
 unfoldable pub method_at : List ℕ → Result (Descriptor × ℕ) TextFault
 method_at text = do
   params ← params_at (length text) 0 text 1
   result ← result_at text (params.1 + 1)
   Ok (Method params.0 result.0, result.1)
 
+-- the type of a field
 unfoldable pub field_at : List ℕ → Result (Descriptor × ℕ) TextFault
 field_at text = do
   t ← type_at text 0
@@ -166,6 +172,7 @@ field_at text = do
 abbrev pub front_of : List ℕ → Result (Descriptor × ℕ) TextFault
 front_of text = if has_at text 0 40 then method_at text else field_at text
 
+-- a descriptor that ends where the text does
 abbrev pub whole_or : List ℕ → Descriptor × ℕ → Result Descriptor TextFault
 whole_or text d = if d.1 == length text then Ok d.0 else Err (BadText d.1)
 

@@ -3,6 +3,7 @@ use Rattle.std.specs.Prelude.{ℕ, List, [], ◌∷◌, Bool, true, false, not, 
 use Rattle.std.specs.List.{list_all, list_any}
 use Rattle.jl_logic.specs.Order.{is_text}
 
+-- the byte is a /
 abbrev pub is_slash : ℕ → Bool
 is_slash b = b == 47
 
@@ -10,10 +11,12 @@ is_slash b = b == 47
 abbrev pub is_reserved : ℕ → Bool
 is_reserved b = (b == 46) || ((b == 59) || (b == 91))
 
+-- there is no byte
 abbrev pub is_empty : List ℕ → Bool
 is_empty [] = true
 is_empty (b ∷ bs) = false
 
+-- the first part begins with this byte too
 abbrev pub with_first : ℕ → List (List ℕ) → List (List ℕ)
 with_first b [] = (b ∷ []) ∷ []
 with_first b (p ∷ ps) = (b ∷ p) ∷ ps
@@ -27,6 +30,7 @@ parts (b ∷ bs) = if is_slash b then [] ∷ parts bs else with_first b (parts b
 abbrev pub stops : ℕ → Bool → Bool
 stops b begun = is_reserved b || (is_slash b && not begun)
 
+-- some bytes, none of which is reserved
 abbrev pub is_part : List ℕ → Bool
 is_part p = not (is_empty p) && list_all (λ b. not (is_reserved b)) p
 
@@ -42,6 +46,7 @@ is_plain b = not (is_reserved b) && not (is_slash b)
 abbrev pub is_unqualified : List ℕ → Bool
 is_unqualified name = not (is_empty name) && list_all is_plain name
 
+-- the name of a field or of a variable
 abbrev pub names_a_field : List ℕ → Bool
 names_a_field = is_unqualified
 
@@ -53,6 +58,7 @@ is_angle b = (b == 60) || (b == 62)
 abbrev pub is_special : List ℕ → Bool
 is_special name = is_text name (codes "<init>") || is_text name (codes "<clinit>")
 
+-- the name of a method: one of its own, or an unqualified one without < and >
 abbrev pub names_a_method : List ℕ → Bool
 names_a_method name = is_special name || (is_unqualified name && not (list_any is_angle name))
 

@@ -23,6 +23,7 @@ unit_bytes u =
 abbrev pub text_bytes : List ℕ → List ℕ
 text_bytes units = flat_map unit_bytes units
 
+-- each is a number of two bytes
 abbrev pub AreUnits : List ℕ → Type 0
 AreUnits = AllByRecursion (λ u. u < 65536)
 
@@ -32,6 +33,7 @@ IsText bytes = (units : List ℕ) × AreUnits units × (text_bytes units ≡ byt
 
 -- ---- reading
 
+-- a byte that goes on with a unit
 abbrev pub is_tail : ℕ → Bool
 is_tail b = nat_le 128 b && nat_lt b 192
 
@@ -39,9 +41,11 @@ is_tail b = nat_le 128 b && nat_lt b 192
 abbrev pub may_follow : ℕ → ℕ → Bool
 may_follow first b = if first == 192 then b == 128 else if first == 224 then nat_le 160 b && nat_lt b 192 else is_tail b
 
+-- the first byte of a unit in two bytes
 abbrev pub begins_two : ℕ → Bool
 begins_two b = (b == 192) || (nat_le 194 b && nat_lt b 224)
 
+-- the first byte of a unit in three bytes
 abbrev pub begins_three : ℕ → Bool
 begins_three b = nat_le 224 b && nat_lt b 240
 
@@ -72,12 +76,15 @@ units_read bytes = units_from (length bytes) bytes 0
 
 -- ---- plain text
 
+-- the first unit of a pair of surrogates
 abbrev pub is_high : ℕ → Bool
 is_high u = nat_le 55296 u && nat_lt u 56320
 
+-- the second unit of a pair of surrogates
 abbrev pub is_low : ℕ → Bool
 is_low u = nat_le 56320 u && nat_lt u 57344
 
+-- a unit that makes no character by itself
 abbrev pub is_surrogate : ℕ → Bool
 is_surrogate u = is_high u || is_low u
 
@@ -95,6 +102,7 @@ plain [] = []
 plain (u ∷ []) = plain_unit u
 plain (u ∷ v ∷ us) = if is_high u && is_low v then encode_utf8 (paired u v) ++ plain us else plain_unit u ++ plain (v ∷ us)
 
+-- each surrogate stands in a pair, the high one first
 unfoldable pub has_no_lone_surrogate : List ℕ → Bool
 has_no_lone_surrogate [] = true
 has_no_lone_surrogate (u ∷ []) = not (is_surrogate u)

@@ -1,4 +1,4 @@
--- The UTF-16 units of a text.
+-- The UTF-16 units of a text (JLS 3.1).
 use Rattle.std.specs.Prelude.{ℕ, List, chars}
 use Rattle.std.specs.List.{flat_map}
 use Rattle.std.specs.Char.Escape.{encode_utf16}

@@ -6,6 +6,7 @@ use Rattle.jl_optable.specs.declared.form.Operands.TheVariants as kinds
 use Rattle.jl_optable.specs.declared.form.Form.{Form}
 use Rattle.jl_optable.specs.declared.ops.TheConstants as ops
 
+-- the opcode is one of these, the first and the last included
 abbrev pub is_within : ℕ → ℕ → ℕ → Bool
 is_within from to op = nat_le from op && nat_le op to
 
