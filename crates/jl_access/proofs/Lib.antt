@@ -1,5 +1,6 @@
 -- Lemmas.
 pub mod Conditions
+pub mod Granting
 pub mod Keys
 pub mod Lists
 pub mod Modules

@@ -1,5 +1,6 @@
 -- Worked rows of the definitions.
 use Rattle.std.proofs.Common.{◌≡◌, ℕ, List, [], ◌∷◌, Bool, true, false, Some, None, refl}
+use Rattle.std.specs.Prelude.{codes}
 use Rattle.jl_logic.specs.Counts.{last_count}
 use Rattle.jl_access.specs.declared.report.Key.{Key}
 use Rattle.jl_access.specs.declared.report.NoteKind.TheVariants as kinds
@@ -14,8 +15,9 @@ use Rattle.jl_access.specs.declared.verdict.Rule.TheVariants as rules
 use Rattle.jl_access.specs.declared.verdict.Verdict.{Verdict}
 use Rattle.jl_access.specs.declared.verdict.Verdict.TheVariants.{Granted, Denied}
 use Rattle.jl_access.specs.Facts.{State}
-use Rattle.jl_access.specs.Reports.{Line, Note, firsts, lines_of, noted}
-use Rattle.jl_access.specs.Verdicts.{class_verdict, member_verdict, reflect_verdict, deep_verdict, service_verdict, caller_verdict}
+use Rattle.jl_access.specs.Reports.{Line, Note, firsts, is_due, lines_of, noted}
+use Rattle.jl_access.specs.Texts.{kind_text, rule_text, verdict_text}
+use Rattle.jl_access.specs.Verdicts.{is_of_modules, class_verdict, member_verdict, reflect_verdict, deep_verdict, service_verdict, caller_verdict}
 
 -- ---- verdicts: module 1 has package p (112), module 2 package q (113)
 
@@ -34,7 +36,7 @@ to : Place
 to = record { «module» = record { 0 = 2 }; loader = record { 0 = 1 }; «package» = 113 ∷ [] }
 
 member : Access → Bool → Bool → MemberAccess
-member a static subclass = record { access = a; is_static = static; same_class = false; same_package = false; subclass = subclass; named_related = false }
+member a static subclass = record { access = a; is_static = static; same_class = false; same_nest = false; same_package = false; subclass = subclass; named_related = false }
 
 -- exported to the reader
 a_class_granted : class_verdict (facts (Reads (record { 0 = 1 }) (record { 0 = 2 }) ∷ Exports (record { 0 = 2 }) (113 ∷ []) (To (record { 0 = 1 })) ∷ [])) from to true ≡ Granted
@@ -50,6 +52,15 @@ a_class_denied = refl
 a_class_elsewhere : class_verdict (facts (Opens (record { 0 = 2 }) (113 ∷ []) (To (record { 0 = 3 })) ∷ Reads (record { 0 = 1 }) (record { 0 = 2 }) ∷ [])) from to true ≡ Denied rules.NotExportedTo
 unfolding facts from to
 a_class_elsewhere = refl
+
+-- of one nest, and of one run-time package alone
+a_nest_mate_granted : member_verdict (record (member access.Private false false) { same_nest = true }) ≡ Granted
+unfolding member
+a_nest_mate_granted = refl
+
+no_nest_mate_denied : member_verdict (record (member access.Private false false) { same_package = true }) ≡ Denied rules.MemberPrivate
+unfolding member
+no_nest_mate_denied = refl
 
 a_member_granted : member_verdict (member access.Protected true true) ≡ Granted
 unfolding member
@@ -81,6 +92,11 @@ a_depth_elsewhere : deep_verdict (facts (Opens (record { 0 = 2 }) (113 ∷ []) (
 unfolding facts from to member
 a_depth_elsewhere = refl
 
+-- open to nobody
+a_depth_to_nobody : deep_verdict (facts (Opens (record { 0 = 2 }) (113 ∷ []) Nobody ∷ [])) from to true (member access.Private false false) ≡ Denied rules.NotOpenTo
+unfolding facts from to member
+a_depth_to_nobody = refl
+
 a_service_granted : service_verdict (facts (Uses (record { 0 = 1 }) (115 ∷ []) ∷ [])) (record { 0 = 1 }) (115 ∷ []) ≡ Granted
 unfolding facts
 a_service_granted = refl
@@ -98,7 +114,30 @@ a_change_denied : caller_verdict (facts (Opens (record { 0 = 2 }) (113 ∷ []) (
 unfolding facts
 a_change_denied = refl
 
+-- ---- rules
+
+of_modules : is_of_modules rules.NotOpenTo ≡ true
+of_modules = refl
+
+of_members : is_of_modules rules.MemberProtected ≡ false
+of_members = refl
+
+printed_rule : rule_text rules.NotExportedTo ≡ codes "not-exported-to"
+printed_rule = refl
+
+printed_kind : kind_text kinds.Service ≡ codes "service"
+printed_kind = refl
+
+printed_denial : verdict_text (Denied rules.ClassNotPublic) ≡ codes "denied class-not-public"
+printed_denial = refl
+
 -- ---- the report
+
+a_note_due : is_due (record { 0 = 1 }) (record { 0 = 2 }) ≡ true
+a_note_due = refl
+
+no_note_due : is_due (record { 0 = 2 }) (record { 0 = 2 }) ≡ false
+no_note_due = refl
 
 key : ℕ → Verdict → Key
 key m v = record { from = record { 0 = m }; to = record { 0 = 2 }; «package» = Some (113 ∷ []); kind = kinds.Class; verdict = v }

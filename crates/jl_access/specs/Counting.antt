@@ -1,4 +1,4 @@
--- What a note makes of the line of its key.
+-- What a note makes of the line of its key in the report of the checks (JVMS 5.4.4).
 use Rattle.std.specs.Prelude.{ℕ, ◌+◌, Option, None, Some, min}
 use Rattle.jl_logic.specs.Counts.{last_count}
 

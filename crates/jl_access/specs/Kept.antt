@@ -1,4 +1,4 @@
--- How facts are kept: names by their numbers, and tables beside the list.
+-- How facts (`java.lang.Module`) are kept: names by their numbers, and tables beside the list.
 use Rattle.std.specs.Prelude.{◌≡◌, ℕ, ◌+◌, ◌<◌, ◌≤◌, List, [], length, Option, None, Some, Bool, true, false, ◌&&◌, ◌==◌, slice_get}
 use Rattle.std.specs.List.{list_any}
 use Rattle.jl_logic.specs.Order.{is_text}
@@ -12,6 +12,7 @@ use Rattle.jl_access.specs.Facts.{is_same}
 
 -- ---- names
 
+-- texts by their numbers, and for how many more there is room
 pub record Texts : Type 0 where
   pub texts : List (List ℕ)
   pub spare_texts : ℕ
@@ -20,14 +21,16 @@ pub record Texts : Type 0 where
 abbrev pub same_items : {V : Type 0} → (V → List ℕ) → V → V → Bool
 same_items items a b = is_text (items a) (items b)
 
--- the text with a number
+-- the text, or the empty one where there is none
 abbrev pub text_in : Option (List ℕ) → List ℕ
 text_in None = []
 text_in (Some t) = t
 
+-- the text at a place, or none
 abbrev pub text_at : List (List ℕ) → ℕ → List ℕ
 text_at texts n = text_in (slice_get texts n)
 
+-- the number that was found
 abbrev pub is_number : Option ℕ → ℕ → Bool
 is_number None n = false
 is_number (Some k) n = n == k
@@ -38,22 +41,26 @@ IsNumberOf texts t found = (n : ℕ) → n < length texts → is_text (text_at t
 
 -- ---- facts
 
+-- facts in order, and for how many more there is room
 pub record Known : Type 0 where
   pub facts : List Fact
   pub spare_facts : ℕ
 
+-- the same reach
 abbrev pub is_same_reach : Reach → Reach → Bool
 is_same_reach All All = true
 is_same_reach (To a) (To b) = is_same a b
 is_same_reach Nobody Nobody = true
 is_same_reach _ _ = false
 
+-- the same, said of a name
 abbrev pub is_same_about : About → About → Bool
 is_same_about (Exports a r) (Exports b s) = is_same a b && is_same_reach r s
 is_same_about (Opens a r) (Opens b s) = is_same a b && is_same_reach r s
 is_same_about (Uses a) (Uses b) = is_same a b
 is_same_about _ _ = false
 
+-- the same fact
 abbrev pub same_fact : Fact → Fact → Bool
 same_fact (Reads a b) (Reads c d) = is_same a c && is_same b d
 same_fact (Of x n) (Of y m) = is_same_about x y && (m == n)
@@ -61,11 +68,13 @@ same_fact _ _ = false
 
 -- ---- without the reach
 
+-- what is said of a name, where the reach is that to all
 abbrev pub about_all : About → About
 about_all (Exports m r) = Exports m All
 about_all (Opens m r) = Opens m All
 about_all (Uses m) = Uses m
 
+-- a fact, where the reach is that to all
 abbrev pub to_all : Fact → Fact
 to_all (Reads a b) = Reads a b
 to_all (Of x n) = Of (about_all x) n

@@ -12,14 +12,18 @@ use Rattle.jl_access.specs.declared.verdict.Verdict.{Verdict}
 use Rattle.jl_access.specs.declared.verdict.Verdict.TheVariants.{Granted, Denied}
 use Rattle.jl_access.specs.Facts.{State, is_same, reads, opened, open_to, exported, exported_to, uses}
 
--- each condition with its rule
+-- what conditions say, each with its rule: the first that fails
 abbrev pub judged : List (Bool × Rule) → Verdict
 judged [] = Granted
 judged (c ∷ cs) = if c.0 then judged cs else Denied c.1
 
-abbrev pub is_granted : Verdict → Bool
-is_granted Granted = true
-is_granted (Denied r) = false
+-- a rule of modules; the others are of public, protected, package and private access
+abbrev pub is_of_modules : Rule → Bool
+is_of_modules rules.ClassNotPublic = false
+is_of_modules rules.MemberPrivate = false
+is_of_modules rules.MemberPackage = false
+is_of_modules rules.MemberProtected = false
+is_of_modules _ = true
 
 -- the second where the first grants
 abbrev pub then_judged : Verdict → Verdict → Verdict
@@ -32,6 +36,7 @@ then_judged (Denied r) other = Denied r
 abbrev pub is_one_package : Place → Place → Bool
 is_one_package a b = (a.loader.0 == b.loader.0) && is_text a.package b.package
 
+-- one module
 abbrev pub is_one_module : Place → Place → Bool
 is_one_module a b = is_same a.module b.module
 
@@ -42,14 +47,17 @@ beyond_reading f from to public =
     ∷ (exported_to f to.module to.package from.module, rules.NotExportedTo)
     ∷ (public, rules.ClassNotPublic) ∷ []
 
+-- within one module
 abbrev pub within_module : Place → Place → Bool → List (Bool × Rule)
 within_module from to public = (public || is_one_package from to, rules.ClassNotPublic) ∷ []
 
+-- what a class asks for
 abbrev pub class_conditions : State → Place → Place → Bool → List (Bool × Rule)
 class_conditions f from to public =
     if is_one_module from to then within_module from to public
     else (reads f from.module to.module, rules.NotRead) ∷ beyond_reading f from to public
 
+-- whether a class may use another
 abbrev pub class_verdict : State → Place → Place → Bool → Verdict
 class_verdict f from to public = judged (class_conditions f from to public)
 
@@ -59,12 +67,14 @@ class_verdict f from to public = judged (class_conditions f from to public)
 abbrev pub is_inherited : MemberAccess → Bool
 is_inherited a = a.subclass && (a.is_static || a.named_related)
 
+-- by who may use the member: all, its class and the nest of that, its run-time package, or that and subclasses
 abbrev pub member_conditions : Access → MemberAccess → List (Bool × Rule)
 member_conditions access.Public a = []
-member_conditions access.Private a = (a.same_class, rules.MemberPrivate) ∷ []
+member_conditions access.Private a = (a.same_class || a.same_nest, rules.MemberPrivate) ∷ []
 member_conditions access.Package a = (a.same_package, rules.MemberPackage) ∷ []
 member_conditions access.Protected a = (a.same_package || is_inherited a, rules.MemberProtected) ∷ []
 
+-- whether a class may use a member of a class that it may use
 abbrev pub member_verdict : MemberAccess → Verdict
 member_verdict a = judged (member_conditions a.access a)
 
@@ -74,6 +84,7 @@ member_verdict a = judged (member_conditions a.access a)
 abbrev pub by_its_class : MemberAccess → MemberAccess
 by_its_class a = record a { named_related = a.subclass }
 
+-- what a class asks for under reflection, which is not asked for reading
 abbrev pub reflect_conditions : State → Place → Place → Bool → List (Bool × Rule)
 reflect_conditions f from to public =
     if is_one_module from to then within_module from to public
@@ -85,10 +96,12 @@ reflect_verdict f from to public a =
     if a.same_class then Granted
     else then_judged (judged (reflect_conditions f from to public)) (member_verdict (by_its_class a))
 
+-- public
 abbrev pub is_public : Access → Bool
 is_public access.Public = true
 is_public _ = false
 
+-- protected
 abbrev pub is_protected : Access → Bool
 is_protected access.Protected = true
 is_protected _ = false
@@ -101,10 +114,12 @@ is_shown a = is_public a.access || (is_protected a.access && (a.is_static && a.s
 abbrev pub is_shown_to : State → Place → Place → Bool → MemberAccess → Bool
 is_shown_to f from to public a = public && (is_shown a && exported_to f to.module to.package from.module)
 
+-- within one module, shown to the caller, or open to its module
 abbrev pub may_go_deep : State → Place → Place → Bool → MemberAccess → Bool
 may_go_deep f from to public a =
     is_one_module from to || (is_shown_to f from to public a || open_to f to.module to.package from.module)
 
+-- whether a member may be made accessible; a package that is opened, to nobody too, is closed to the caller alone
 abbrev pub deep_verdict : State → Place → Place → Bool → MemberAccess → Verdict
 deep_verdict f from to public a =
     if may_go_deep f from to public a then Granted
@@ -113,6 +128,7 @@ deep_verdict f from to public a =
 
 -- ---- services and changes (`ServiceLoader`, `Module`)
 
+-- whether a module may look for providers of a service
 abbrev pub service_verdict : State → ModuleId → List ℕ → Verdict
 service_verdict f from service = judged ((uses f from service, rules.ServiceNotUsed) ∷ [])
 
@@ -121,5 +137,6 @@ abbrev pub may_change : State → ModuleId → ModuleId → Option (List ℕ) �
 may_change f from to None = is_same from to
 may_change f from to (Some p) = open_to f to p from
 
+-- whether a class of one module may change another
 abbrev pub caller_verdict : State → ModuleId → ModuleId → Option (List ℕ) → Verdict
 caller_verdict f from to opens = judged ((may_change f from to opens, rules.CallerNotAllowed) ∷ [])

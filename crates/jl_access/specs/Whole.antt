@@ -1,4 +1,4 @@
--- How the parts of facts make statements.
+-- How the parts of facts make statements (`java.lang.Module`).
 use Rattle.std.specs.Prelude.{ℕ, ◌<◌, ◌≤◌, List, length, Bool, false, ◌&&◌, ⊤}
 use Rattle.std.specs.List.{AllByRecursion}
 use Rattle.jl_logic.specs.Order.{is_text}
@@ -15,16 +15,19 @@ use Rattle.jl_access.specs.Kept.{Texts, Known, text_at, is_same_about}
 
 -- ---- modules
 
+-- a module as contracts see it
 abbrev pub declared : Module → Declared
 declared m = record { is_open = m.is_open; packages = m.packages }
 
 -- ---- statements
 
+-- the statement that says this of a name
 abbrev pub said : About → List ℕ → Statement
 said (Exports m r) p = statements.Exports m p r
 said (Opens m r) p = statements.Opens m p r
 said (Uses m) s = statements.Uses m s
 
+-- the statement of a fact
 abbrev pub stated : List (List ℕ) → Fact → Statement
 stated texts (Reads a b) = statements.Reads a b
 stated texts (Of x n) = said x (text_at texts n)
@@ -49,6 +52,7 @@ says x p (statements.Exports m q r) = is_same_about x (Exports m r) && is_text q
 says x p (statements.Opens m q r) = is_same_about x (Opens m r) && is_text q p
 says x p (statements.Uses m t) = is_same_about x (Uses m) && is_text t p
 
+-- a statement, where the reach is that to all
 abbrev pub statement_all : Statement → Statement
 statement_all (statements.Reads a b) = statements.Reads a b
 statement_all (statements.Exports m q r) = statements.Exports m q All

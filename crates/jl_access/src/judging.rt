@@ -151,7 +151,7 @@ fn member_verdict(a: MemberAccess) -> Verdict
 {
     let (holds, rule) = match a.access {
         Access::Public => return Verdict::Granted,
-        Access::Private => (a.same_class, Rule::MemberPrivate),
+        Access::Private => (a.same_class || a.same_nest, Rule::MemberPrivate),
         Access::Package => (a.same_package, Rule::MemberPackage),
         Access::Protected => (a.same_package || is_inherited(a), Rule::MemberProtected),
     };

@@ -1,8 +1,13 @@
 //! Laws of verdicts. There is nothing to run.
 
-ghost use Rattle.jl_access.specs.Laws.{GrantsStay, DenialsName, GrantsByThree};
+ghost use Rattle.jl_access.specs.Laws.{FactsStay, GrantsStay, DenialsName, GrantsByThree, ReflectsByAnExport, DeepByAnOpening};
 
-/// Says that what is granted stays granted, whatever is stated later.
+/// Says that what holds of modules goes on to hold, whatever modules and statements are added.
+pub fn facts_stay()
+    ensures { FactsStay }
+{}
+
+/// Says that what is granted stays granted, whatever modules and statements are added.
 pub fn grants_stay()
     ensures { GrantsStay }
 {}
@@ -15,4 +20,14 @@ pub fn denials_name_their_rules()
 /// Says what a grant between two modules is.
 pub fn grants_by_three()
     ensures { GrantsByThree }
+{}
+
+/// Says what a grant to reflection between two modules is.
+pub fn reflects_by_an_export()
+    ensures { ReflectsByAnExport }
+{}
+
+/// Says what a grant to deep reflection between two modules is.
+pub fn deep_by_an_opening()
+    ensures { DeepByAnOpening }
 {}

@@ -16,10 +16,10 @@ mod verdict;
 
 pub use facts::Facts;
 pub use fault::FactsEnd;
-pub use law::{denials_name_their_rules, grants_by_three, grants_stay};
-pub use report::{Key, NoteKind, Report};
+pub use law::{
+    deep_by_an_opening, denials_name_their_rules, facts_stay, grants_by_three, grants_stay,
+    reflects_by_an_export,
+};
+pub use report::{Key, NoteKind, Report, is_note_due};
 pub use statement::{Reach, Statement};
 pub use verdict::{Access, MemberAccess, Place, Rule, Verdict};
-
-#[cfg(test)]
-mod tests;

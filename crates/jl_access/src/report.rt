@@ -2,7 +2,8 @@
 
 ghost use Rattle.std.specs.Prelude.{◌≡◌, [], ◌∷◌, ◌++◌, List, OnOk, OnErr, slice_get, option_map, option_copied};
 ghost use Rattle.jl_access.specs.Counting as counting;
-ghost use Rattle.jl_access.specs.Reports.{Note, noted, lines_of};
+ghost use Rattle.jl_access.specs.Reports.{Note, noted, lines_of, is_due};
+ghost use Rattle.jl_access.specs.Texts as texts;
 
 use crate::fault::FactsEnd;
 use crate::verdict::Verdict;
@@ -20,6 +21,29 @@ pub enum NoteKind {
     Deep,
     Service,
     Caller,
+}
+
+impl NoteKind {
+    /// The kind as it is printed.
+    pub fn text(self) -> &'static str
+        ensures { result.now ≡ texts.kind_text self }
+    {
+        match self {
+            NoteKind::Class => "class",
+            NoteKind::Member => "member",
+            NoteKind::Reflect => "reflect",
+            NoteKind::Deep => "deep",
+            NoteKind::Service => "service",
+            NoteKind::Caller => "caller",
+        }
+    }
+}
+
+/// Whether a check between two modules is noted: exactly where they differ.
+pub fn is_note_due(from: ModuleId, to: ModuleId) -> bool
+    ensures { result ≡ is_due from to }
+{
+    from != to
 }
 
 /// What tells one line of the report from another.

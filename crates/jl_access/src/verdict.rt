@@ -1,5 +1,9 @@
 //! Verdicts, the rules that they name, and what is judged.
 
+ghost use Rattle.std.specs.Prelude.{◌≡◌};
+ghost use Rattle.jl_access.specs.Verdicts as verdicts;
+ghost use Rattle.jl_access.specs.Texts as texts;
+
 use jl_prim::{LoaderId, ModuleId, Name};
 
 /// Where a class is: its module, its defining loader and its package. Two classes of one package name and
@@ -27,6 +31,8 @@ pub struct MemberAccess {
     pub is_static: bool,
     /// The caller is the class that declares the member.
     pub same_class: bool,
+    /// The two classes are of one nest (JVMS 5.4.4).
+    pub same_nest: bool,
     /// The two classes are of one run-time package.
     pub same_package: bool,
     /// The caller is a subclass of the class that declares the member.
@@ -51,9 +57,71 @@ pub enum Rule {
     CallerNotAllowed,
 }
 
+impl Rule {
+    /// The rule as it is printed.
+    pub fn text(self) -> &'static str
+        ensures { result.now ≡ texts.rule_text self }
+    {
+        match self {
+            Rule::NotRead => "not-read",
+            Rule::NotExported => "not-exported",
+            Rule::NotExportedTo => "not-exported-to",
+            Rule::ClassNotPublic => "class-not-public",
+            Rule::MemberPrivate => "member-private",
+            Rule::MemberPackage => "member-package",
+            Rule::MemberProtected => "member-protected",
+            Rule::NotOpen => "not-open",
+            Rule::NotOpenTo => "not-open-to",
+            Rule::ServiceNotUsed => "service-not-used",
+            Rule::CallerNotAllowed => "caller-not-allowed",
+        }
+    }
+
+    /// Whether the rule is one of modules, and not of public, protected, package and private access.
+    pub fn is_of_modules(self) -> bool
+        ensures { result ≡ verdicts.is_of_modules self }
+    {
+        !matches!(
+            self,
+            Rule::ClassNotPublic | Rule::MemberPrivate | Rule::MemberPackage | Rule::MemberProtected
+        )
+    }
+}
+
 /// What a check says.
 #[derive(Clone, Copy, Debug, PartialEq, Eq, Hash)]
 pub enum Verdict {
     Granted,
     Denied(Rule),
+}
+
+impl Verdict {
+    /// The verdict as it is printed: `granted`, or `denied` with the rule.
+    pub fn text(self) -> &'static str
+        ensures { result.now ≡ texts.verdict_text self }
+    {
+        match self {
+            Verdict::Granted => "granted",
+            Verdict::Denied(rule) => denial_text(rule),
+        }
+    }
+}
+
+/// A denial as it is printed.
+fn denial_text(rule: Rule) -> &'static str
+    ensures { result.now ≡ texts.denial_text rule }
+{
+    match rule {
+        Rule::NotRead => "denied not-read",
+        Rule::NotExported => "denied not-exported",
+        Rule::NotExportedTo => "denied not-exported-to",
+        Rule::ClassNotPublic => "denied class-not-public",
+        Rule::MemberPrivate => "denied member-private",
+        Rule::MemberPackage => "denied member-package",
+        Rule::MemberProtected => "denied member-protected",
+        Rule::NotOpen => "denied not-open",
+        Rule::NotOpenTo => "denied not-open-to",
+        Rule::ServiceNotUsed => "denied service-not-used",
+        Rule::CallerNotAllowed => "denied caller-not-allowed",
+    }
 }

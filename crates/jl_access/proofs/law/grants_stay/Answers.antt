@@ -3,9 +3,9 @@ use Rattle.jl_access.proofs.law.grants_stay.Goals as goal
 
 pub returns : goal.returns
 returns c = record {
-  classes = λ s f g from to public adds. classes_stay s f g from to public adds;
-  reflection = λ s f g from to public a adds. reflection_stays s f g from to public adds a;
-  deep = λ s f g from to public a adds. deep_stays s f g from to public adds a;
-  services = λ s f g from service adds. services_stay s f g from adds service;
-  changes = λ s f g from to opens adds. changes_stay s f g from adds to opens;
+  classes = λ f g from to public grows. classes_stay f g from to public grows;
+  reflection = λ f g from to public a grows. reflection_stays f g from to public grows a;
+  deep = λ f g from to public a grows. deep_stays f g from to public grows a;
+  services = λ f g from service grows. services_stay f g from grows service;
+  changes = λ f g from to opens grows. changes_stay f g from grows to opens;
 }
