@@ -1,3 +1,4 @@
 pub mod Marking
+mod Rows
 pub mod Closing
 pub mod Always

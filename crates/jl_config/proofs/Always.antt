@@ -7,13 +7,13 @@ use Rattle.jl_config.specs.declared.configuration.Read.{Read}
 use Rattle.jl_config.specs.declared.fault.ResolveFault.{ResolveFault}
 use Rattle.jl_config.specs.declared.fault.ResolveFault.TheVariants.{NoParents, NotFound, TooMany, Cycle, SameName, SamePackage, OwnPackage, ServicePackage, NoMemory}
 use Rattle.jl_config.specs.declared.site.Site.{Site}
-use Rattle.jl_config.specs.Graphs.{Graph}
+use Rattle.jl_config.specs.Configurations.{Configuration}
 use Rattle.jl_config.specs.Laws.{ResolvesAlways, RefusesWhereOneHolds}
 use Rattle.jl_config.specs.Located.{Asked, Scene, scene_of, id_of, name_of, site_name}
 use Rattle.jl_config.specs.Members.{IsMember, Reads}
 use Rattle.jl_config.specs.Orders.{module_cmp, read_cmp}
-use Rattle.jl_config.specs.Refusals.{IsMissing, IsLarge, most, IsOnCircle, IsSameName, IsSamePackage, IsOwnPackage, IsServicePackage, Applies, fault_cmp}
-use Rattle.jl_config.specs.Resolves.{Resolves, AreModules, AreReads, IsGraphOf, read_of, new_site}
+use Rattle.jl_config.specs.Refusals.{IsMissing, IsLarge, most, IsOnCycle, IsSameName, IsSamePackage, IsOwnPackage, IsServicePackage, Applies, fault_cmp}
+use Rattle.jl_config.specs.Resolves.{Resolves, AreModules, AreReads, IsConfigurationOf, read_of, new_site}
 use Rattle.jl_config.proofs.FaultOrder.{fault_total, modules_total, reads_total, reads_exact}
 use Rattle.jl_config.proofs.Names.{names_exact}
 use Rattle.jl_config.proofs.FaultListings.{missing_listed, decided_large, same_name_listed, same_package_listed, own_package_listed, service_listed}
@@ -59,7 +59,7 @@ abbrev Kind : Asked → ResolveFault → Type 0
 Kind q f = ((q.parents ≡ []) × (NoParents ≡ f))
     ⊎ (Made (IsMissing (scene_of q)) not_found f
     ⊎ ((IsTooMany q × (TooMany ≡ f))
-    ⊎ (Made (IsOnCircle (scene_of q)) Cycle f
+    ⊎ (Made (IsOnCycle (scene_of q)) Cycle f
     ⊎ LaterKind q f)))
 
 later_applies : (q : Asked) (f : ResolveFault) → LaterKind q f → Applies q f
@@ -109,14 +109,14 @@ decided_too_many q lists = decided_either (IsLarge (scene_of q)) (most ≤ lengt
 faults_listed : (q : Asked) → Lists (scene_of q) → Listing (Applies q)
 faults_listed q lists =
     listing_same (Kind q) (Applies q) (kind_applies q) (applies_kind q)
-    (listing_either (λ f. (q.parents ≡ []) × (NoParents ≡ f)) (λ f. Made (IsMissing (scene_of q)) not_found f ⊎ ((IsTooMany q × (TooMany ≡ f)) ⊎ (Made (IsOnCircle (scene_of q)) Cycle f ⊎ LaterKind q f)))
+    (listing_either (λ f. (q.parents ≡ []) × (NoParents ≡ f)) (λ f. Made (IsMissing (scene_of q)) not_found f ⊎ ((IsTooMany q × (TooMany ≡ f)) ⊎ (Made (IsOnCycle (scene_of q)) Cycle f ⊎ LaterKind q f)))
     (listing_if (q.parents ≡ []) NoParents (decided_no_parents q.parents))
-    (listing_either (Made (IsMissing (scene_of q)) not_found) (λ f. (IsTooMany q × (TooMany ≡ f)) ⊎ (Made (IsOnCircle (scene_of q)) Cycle f ⊎ LaterKind q f))
+    (listing_either (Made (IsMissing (scene_of q)) not_found) (λ f. (IsTooMany q × (TooMany ≡ f)) ⊎ (Made (IsOnCycle (scene_of q)) Cycle f ⊎ LaterKind q f))
     (listing_map (IsMissing (scene_of q)) not_found (missing_listed (scene_of q) lists))
-    (listing_either (λ f. IsTooMany q × (TooMany ≡ f)) (λ f. Made (IsOnCircle (scene_of q)) Cycle f ⊎ LaterKind q f)
+    (listing_either (λ f. IsTooMany q × (TooMany ≡ f)) (λ f. Made (IsOnCycle (scene_of q)) Cycle f ⊎ LaterKind q f)
     (listing_if (IsTooMany q) TooMany (decided_too_many q lists))
-    (listing_either (Made (IsOnCircle (scene_of q)) Cycle) (LaterKind q)
-    (listing_map (IsOnCircle (scene_of q)) Cycle lists.circles)
+    (listing_either (Made (IsOnCycle (scene_of q)) Cycle) (LaterKind q)
+    (listing_map (IsOnCycle (scene_of q)) Cycle lists.cycles)
     (later_listed q lists)))))
 
 -- ---- the modules
@@ -192,8 +192,8 @@ reads_made w lists none =
 
 -- ---- the answer
 
-graph_made : (q : Asked) → Lists (scene_of q) → ((f : ResolveFault) → Applies q f → ⊥) → (g : Graph) × IsGraphOf q g
-graph_made q lists none =
+configuration_made : (q : Asked) → Lists (scene_of q) → ((f : ResolveFault) → Applies q f → ⊥) → (g : Configuration) × IsConfigurationOf q g
+configuration_made q lists none =
     let modules = modules_made q lists in
     let reads = reads_made (scene_of q) lists (λ m k. none (SameName m.0 m.1) k) in (
       record { id = id_of q; parents = q.parents; modules = modules.0; reads = reads.0 },
@@ -201,11 +201,11 @@ graph_made q lists none =
     )
 
 abbrev Answer : Asked → Type 0
-Answer q = (r : Result Graph ResolveFault) × Resolves q r × (r ≢ Err NoMemory)
+Answer q = (r : Result Configuration ResolveFault) × Resolves q r × (r ≢ Err NoMemory)
 
 answer_by : (q : Asked) → Lists (scene_of q) → ((f : ResolveFault) × IsLeast fault_cmp (Applies q) f) ⊎ ((f : ResolveFault) → Applies q f → ⊥) → Answer q
 answer_by q lists (inl (f, least)) = (Err f, told_by_least q f least, λ e. let same : f ≡ NoMemory = cc in subst (Applies q) same least.has)
-answer_by q lists (inr none) = let g = graph_made q lists none in (Ok g.0, (none, g.1), λ e. absurd cc)
+answer_by q lists (inr none) = let g = configuration_made q lists none in (Ok g.0, (none, g.1), λ e. absurd cc)
 
 pub resolves_always : ResolvesAlways
 resolves_always q =

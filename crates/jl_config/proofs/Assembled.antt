@@ -10,7 +10,7 @@ use Rattle.jl_logic.proofs.Rising.{contains_head, each_from_members}
 use Rattle.jl_config.specs.declared.fault.ResolveFault.{ResolveFault}
 use Rattle.jl_config.specs.declared.fault.ResolveFault.TheVariants.{NotFound, TooMany, Cycle, SameName, SamePackage, OwnPackage, ServicePackage, NoMemory}
 use Rattle.jl_config.specs.declared.site.Site.{Site}
-use Rattle.jl_config.specs.Graphs.{Graph}
+use Rattle.jl_config.specs.Configurations.{Configuration}
 use Rattle.jl_config.specs.Located.{Asked, Scene, scene_of}
 use Rattle.jl_config.specs.Members.{Enumerated, IsBound, IsMemberBy, IsMember}
 use Rattle.jl_config.specs.Orders.{module_cmp, site_cmp}
@@ -168,7 +168,7 @@ member_bound_by false w s (n, e) = enumerated_bound w n s e
 pub member_bound : (w : Scene) (s : Site) → IsMember w s → IsBound w s
 member_bound w s m = member_bound_by w.binds w s m
 
-pub justified_by_members : (q : Asked) (g : Graph) → AreModules q g.modules → AreJustified q g
+pub justified_by_members : (q : Asked) (g : Configuration) → AreModules q g.modules → AreJustified q g
 justified_by_members q g modules o c = member_bound (scene_of q) (new_site q o) (modules.only o c)
 
 -- ---- members by their places, in order

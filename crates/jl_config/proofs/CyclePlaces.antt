@@ -1,4 +1,4 @@
--- The places that lead back to themselves are those of members on a circle.
+-- The places that lead back to themselves are those of members on a cycle.
 use Rattle.std.proofs.Common.{◌≡◌, ◌≢◌, ◌<◌, ℕ, zero, suc, List, [], ◌∷◌, length, get_or, slice_get, ⊎_elim, refl, sym, ◌∙◌, ap, subst, Contains, All, Option, Some, None, Bool, true, false, cond, Less}
 use Rattle.std.specs.List.{cons_option}
 use Rattle.std.proofs.lemmas.List.{length-map}
@@ -15,8 +15,8 @@ use Rattle.jl_config.specs.Located.{Scene, site_name}
 use Rattle.jl_config.specs.Members.{IsMember}
 use Rattle.jl_config.specs.Orders.{site_cmp}
 use Rattle.jl_config.specs.Places.{place_named, AreMarks, AreMembers, sites_at, CycleFault}
-use Rattle.jl_config.specs.Refusals.{HasEdge, Leads, IsOnCircle, fault_cmp}
-use Rattle.jl_config.specs.Rounds.{kept_marked, edge_place, edge_row, edge_rows, Rounds, IsFirstRound}
+use Rattle.jl_config.specs.Refusals.{HasEdge, Leads, IsOnCycle, fault_cmp}
+use Rattle.jl_config.specs.Cycles.{kept_marked, edge_place, edge_row, edge_rows, LeadsBack, IsFirstOnCycle}
 use Rattle.jl_config.proofs.MemberFinds.{FoundAt, found_where, member_found}
 use Rattle.jl_config.proofs.Lists.{into_filter_map, from_filter_map, from_map, row_at, all_of, same_item, item_at, mark_of}
 use Rattle.jl_config.proofs.FaultOrder.{cycle_cmp, sites_total}
@@ -76,15 +76,15 @@ module _ (w : Scene) (marks : List Bool) (right : AreMarks w marks) where
       let c : Contains (Edges h.0) r.0 = edge_has h.0 t r.0 r.1 h.2 in
       (r.0, r.1, (before.0, before.2, subst (λ (l : List ℕ). Contains l r.0) (sym (row_at Edges w.sites before.0 h.0 [] b.at)) c))
 
-  pub rounds_shows : (p : ℕ) (s : Site) → slice_get w.sites p ≡ Some s → Rounds Rows p → (n : ℕ) × Leads w n s s
-  rounds_shows p s at h =
+  pub leading_back_shows : (p : ℕ) (s : Site) → slice_get w.sites p ≡ Some s → LeadsBack Rows p → (n : ℕ) × Leads w n s s
+  leading_back_shows p s at h =
       let row : get_or Rows p [] ≡ Edges s = row_at Edges w.sites p s [] at in
       let c : Chain Rows (Edges s) h.0 p = subst (λ (l : List ℕ). Chain Rows l h.0 p) row h.1 in
       let r = chain_leads s h.0 p c in
       (h.0, subst (λ (t : Site). Leads w h.0 s t) (same_item r.0 s (slice_get w.sites p) r.1 at) r.2)
 
-  pub rounds_has : (p : ℕ) (s : Site) → FoundAt w p s → (n : ℕ) → Leads w n s s → Rounds Rows p
-  rounds_has p s f n h =
+  pub leading_back_has : (p : ℕ) (s : Site) → FoundAt w p s → (n : ℕ) → Leads w n s s → LeadsBack Rows p
+  leading_back_has p s f n h =
       let r = leads_chain s n s h in
       let g : FoundAt w r.0 s = r.1 in
       let same : r.0 ≡ p = same_item r.0 p (place_named (site_name s) w.sites) g.first f.first in
@@ -109,9 +109,9 @@ module _ (w : Scene) (marks : List Bool) (right : AreMarks w marks) where
   Stand ps = (p : ℕ) → Contains ps p → (s : Site) × (slice_get w.sites p ≡ Some s)
 
   abbrev IsFirst : List ℕ → ℕ → Type 0
-  IsFirst ps q = Contains ps q × Rounds Rows q × ((p : ℕ) (t s : Site) → Contains ps p → slice_get w.sites p ≡ Some t → slice_get w.sites q ≡ Some s → Rounds Rows p → site_cmp t s ≢ Less)
+  IsFirst ps q = Contains ps q × LeadsBack Rows q × ((p : ℕ) (t s : Site) → Contains ps p → slice_get w.sites p ≡ Some t → slice_get w.sites q ≡ Some s → LeadsBack Rows p → site_cmp t s ≢ Less)
 
-  first_shows : (ps : List ℕ) → Stand ps → RisesBy site_cmp (sites_at w ps) → (q : ℕ) → IsFirstRound Rows ps (Some q) → IsFirst ps q
+  first_shows : (ps : List ℕ) → Stand ps → RisesBy site_cmp (sites_at w ps) → (q : ℕ) → IsFirstOnCycle Rows ps (Some q) → IsFirst ps q
   first_shows [] stand up q h = absurd h
   first_shows (p ∷ ps) stand up q h =
       let u = stand p (contains_head p ps) in
@@ -121,8 +121,8 @@ module _ (w : Scene) (marks : List Bool) (right : AreMarks w marks) where
       let same : p ≡ q = cc k.1 in
       let at : slice_get w.sites q ≡ Some u.0 = subst (λ (n : ℕ). slice_get w.sites n ≡ Some u.0) same u.1 in (
         subst (Contains (p ∷ ps)) same (contains_head p ps),
-        subst (λ (n : ℕ). Rounds Rows n) same k.0,
-        λ r t s c att ats round less.
+        subst (λ (n : ℕ). LeadsBack Rows n) same k.0,
+        λ r t s c att ats back less.
             let us : u.0 ≡ s = same_item u.0 s (slice_get w.sites q) at ats in
             ⊎_elim
             (λ e.
@@ -139,49 +139,49 @@ module _ (w : Scene) (marks : List Bool) (right : AreMarks w marks) where
       let more = first_shows ps (λ r c. stand r (contains_tail p r ps c)) rise.1 q k.1 in (
         contains_tail p q ps more.0,
         more.1,
-        λ r t s c att ats round less.
-            ⊎_elim (λ e. k.0 (subst (λ (n : ℕ). Rounds Rows n) (sym e) round)) (λ m. more.2 r t s m att ats round less) (contains_cases p r ps c),
+        λ r t s c att ats back less.
+            ⊎_elim (λ e. k.0 (subst (λ (n : ℕ). LeadsBack Rows n) (sym e) back)) (λ m. more.2 r t s m att ats back less) (contains_cases p r ps c),
       ))
       h
 
-  first_none : (ps : List ℕ) → IsFirstRound Rows ps None → (p : ℕ) → Contains ps p → Rounds Rows p → ⊥
-  first_none [] h p c round = contains_nothing p c
-  first_none (r ∷ ps) h p c round =
+  first_none : (ps : List ℕ) → IsFirstOnCycle Rows ps None → (p : ℕ) → Contains ps p → LeadsBack Rows p → ⊥
+  first_none [] h p c back = contains_nothing p c
+  first_none (r ∷ ps) h p c back =
       ⊎_elim
       (λ k. let clash : None ≡ Some r = k.1 in absurd cc)
-      (λ k. ⊎_elim (λ e. k.0 (subst (λ (n : ℕ). Rounds Rows n) (sym e) round)) (λ m. first_none ps k.1 p m round) (contains_cases r p ps c))
+      (λ k. ⊎_elim (λ e. k.0 (subst (λ (n : ℕ). LeadsBack Rows n) (sym e) back)) (λ m. first_none ps k.1 p m back) (contains_cases r p ps c))
       h
 
   module _ (ps : List ℕ) (members : AreMembers w ps) where
     stand_all : Stand ps
     stand_all p c = item_at w.sites p (All-contains (λ k. k < length w.sites) ps p members.within c)
 
-    pub first_within : (q : ℕ) → IsFirstRound Rows ps (Some q) → q < length w.sites
+    pub first_within : (q : ℕ) → IsFirstOnCycle Rows ps (Some q) → q < length w.sites
     first_within q e = let r = stand_all q (first_shows ps stand_all members.rise q e).0 in slice_get_within w.sites q r.0 r.1
 
-    -- a member on a circle stands at a place of the list that leads back to itself
-    circle_place : (name : List ℕ) → IsOnCircle w name → (p : ℕ) × (s : Site) × Contains ps p × (slice_get w.sites p ≡ Some s) × (site_name s ≡ name) × Rounds Rows p
-    circle_place name h =
+    -- a member on a cycle stands at a place of the list that leads back to itself
+    cycle_place : (name : List ℕ) → IsOnCycle w name → (p : ℕ) × (s : Site) × Contains ps p × (slice_get w.sites p ≡ Some s) × (site_name s ≡ name) × LeadsBack Rows p
+    cycle_place name h =
         let s : Site = h.0 in
         let r = members.all s h.1 in
         let first : place_named (site_name s) w.sites ≡ Some r.0 = (members.only r.0 s r.1 r.2).1 in
         let g = marked_at s h.1 in
         let found : FoundAt w g.0 s = g.1 in
         let f : FoundAt w r.0 s = record { at = r.2; found = found.found; first = first } in
-        (r.0, s, r.1, r.2, h.2, rounds_has r.0 s f h.3.0 h.3.1)
+        (r.0, s, r.1, r.2, h.2, leading_back_has r.0 s f h.3.0 h.3.1)
 
-    pub no_cycle : IsFirstRound Rows ps None → (f : ResolveFault) → CycleFault w f → ⊥
-    no_cycle e (Cycle least) h = let c = circle_place least h in first_none ps e c.0 c.2 c.5
+    pub no_cycle : IsFirstOnCycle Rows ps None → (f : ResolveFault) → CycleFault w f → ⊥
+    no_cycle e (Cycle least) h = let c = cycle_place least h in first_none ps e c.0 c.2 c.5
     no_cycle e f h = absurd h
 
-    pub cycle_right : (q : ℕ) (s : Site) → slice_get w.sites q ≡ Some s → IsFirstRound Rows ps (Some q) → IsLeast fault_cmp (CycleFault w) (Cycle (site_name s))
+    pub cycle_right : (q : ℕ) (s : Site) → slice_get w.sites q ≡ Some s → IsFirstOnCycle Rows ps (Some q) → IsLeast fault_cmp (CycleFault w) (Cycle (site_name s))
     cycle_right q s at e =
         let first = first_shows ps stand_all members.rise q e in
-        record { has = (s, (members.only q s first.0 at).0, refl, rounds_shows q s at first.1); least = below first }
+        record { has = (s, (members.only q s first.0 at).0, refl, leading_back_shows q s at first.1); least = below first }
       where
         below : IsFirst ps q → (f : ResolveFault) → CycleFault w f → fault_cmp f (Cycle (site_name s)) ≢ Less
         below first (Cycle least) h l =
-            let c = circle_place least h in
+            let c = cycle_place least h in
             let less : name_cmp (site_name c.1) (site_name s) ≡ Less = ap (λ (n : List ℕ). name_cmp n (site_name s)) c.4 ∙ sym (cycle_cmp least (site_name s)) ∙ l in
             first.2 c.0 c.1 s c.2 c.3 at c.5 less
         below first f h l = absurd h

@@ -5,12 +5,12 @@ use Rattle.jl_prim.specs.declared.declaration.Observed.{Observed}
 use Rattle.jl_config.specs.declared.fault.ResolveFault.{ResolveFault}
 use Rattle.jl_config.specs.declared.fault.ResolveFault.TheVariants.{TooMany, NoParents}
 use Rattle.jl_config.specs.declared.site.Site.{Site}
-use Rattle.jl_config.specs.Graphs.{Graph}
+use Rattle.jl_config.specs.Configurations.{Configuration}
 use Rattle.jl_config.specs.Located.{Asked, Scene, scene_of, id_of}
 use Rattle.jl_config.specs.MemberRows.{modules_at}
 use Rattle.jl_config.specs.Places.{AreMembers, IsLeastSome, sites_at}
 use Rattle.jl_config.specs.Refusals.{most, fault_cmp}
-use Rattle.jl_config.specs.Resolves.{Resolves, AreReads, AreJustified, IsGraphOf}
+use Rattle.jl_config.specs.Resolves.{Resolves, AreReads, AreJustified, IsConfigurationOf}
 use Rattle.jl_config.specs.Settled.{StartsAt, Settles}
 use Rattle.jl_config.proofs.Always.{IsTooMany}
 use Rattle.jl_config.proofs.Assembled.{IsKind, TooManyFault, none_further, nothing_applies, first_refusal, too_many_first, too_many_kind, large_by_places, not_large_by_places, modules_by_places, justified_by_members}
@@ -71,9 +71,9 @@ many_known q h = inr (past (length q.known) h)
     past n h = omega arith
 
 -- the graph that was made is the answer
-module _ (q : Asked) (w : Scene) (same : w ≡ scene_of q) (ps : List ℕ) (members : AreMembers w ps) (g : Graph) (number : g.id ≡ id_of q) (given : g.parents ≡ q.parents) (modules : g.modules ≡ modules_at w ps) (reads : AreReads w g.reads) where
-  pub graph_is : IsGraphOf q g
-  graph_is = record {
+module _ (q : Asked) (w : Scene) (same : w ≡ scene_of q) (ps : List ℕ) (members : AreMembers w ps) (g : Configuration) (number : g.id ≡ id_of q) (given : g.parents ≡ q.parents) (modules : g.modules ≡ modules_at w ps) (reads : AreReads w g.reads) where
+  pub configuration_is : IsConfigurationOf q g
+  configuration_is = record {
     number = number;
     given = given;
     modules = modules_by_places q ps g.modules (subst (λ (v : Scene). AreMembers v ps) same members) (modules ∙ ap (λ (v : Scene). modules_at v ps) same);
@@ -81,7 +81,7 @@ module _ (q : Asked) (w : Scene) (same : w ≡ scene_of q) (ps : List ℕ) (memb
   }
 
   pub graph_resolves : StartsAt q 8 → Resolves q (Ok g)
-  graph_resolves before = (nothing_applies q before, graph_is)
+  graph_resolves before = (nothing_applies q before, configuration_is)
 
 -- a search for one kind, where none applies before
 module _ (K : Scene → ResolveFault → Type 0) (k : ℕ) (kind : (q : Asked) → IsKind q k (K (scene_of q))) (w : Scene) (found : Option ResolveFault) (sought : IsLeastSome fault_cmp (K w) found) where
@@ -110,5 +110,5 @@ pub none_of : (K : Scene → ResolveFault → Type 0) (w : Scene) (found : Optio
 none_of K w found sought e = subst (λ (o : Option ResolveFault). IsLeastSome fault_cmp (K w) o) e sought
 
 -- and each of its modules ends a justified list
-pub justified_of : (q : Asked) (w : Scene) → w ≡ scene_of q → (ps : List ℕ) → AreMembers w ps → (g : Graph) → g.modules ≡ modules_at w ps → AreJustified q g
+pub justified_of : (q : Asked) (w : Scene) → w ≡ scene_of q → (ps : List ℕ) → AreMembers w ps → (g : Configuration) → g.modules ≡ modules_at w ps → AreJustified q g
 justified_of q w same ps members g modules = justified_by_members q g (modules_by_places q ps g.modules (subst (λ (v : Scene). AreMembers v ps) same members) (modules ∙ ap (λ (v : Scene). modules_at v ps) same))

@@ -8,7 +8,7 @@ use Rattle.jl_config.specs.Located.{site_name, is_numbered, find_named, find_sit
 use Rattle.jl_config.specs.Places.{place_named, place_of_site}
 use Rattle.jl_config.specs.Tables.{first_where}
 use Rattle.jl_config.proofs.Names.{text_is}
-use Rattle.jl_config.proofs.Sighted.{first_named, own_test, first_own}
+use Rattle.jl_config.proofs.Scenes.{first_named, own_test, first_own}
 use Rattle.jl_config.specs.Lineages.{is_named}
 
 module _ {X : Type 0} (test : X → Bool) where

@@ -10,7 +10,7 @@ pub mod MemberPlaces
 pub mod MissingLeasts
 pub mod MissingWhole
 pub mod Noting
-pub mod Sighted
+pub mod Scenes
 pub mod Always
 pub mod Assembled
 pub mod DeclaredLists

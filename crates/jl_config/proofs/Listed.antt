@@ -1,4 +1,4 @@
--- The modules of the set, what they read and the names on circles, as lists of exactly these.
+-- The modules of the set, what they read and the names on cycles, as lists of exactly these.
 use Rattle.std.proofs.Common.{◌≡◌, ◌<◌, ℕ, List, [], length, get_or, sym, subst, Contains, All, Some, Bool, true, slice_get}
 use Rattle.std.proofs.lemmas.Option.{slice_get_within}
 use Rattle.jl_closure.proofs.Always.{marks_exist}
@@ -6,13 +6,13 @@ use Rattle.jl_config.specs.declared.site.Site.{Site}
 use Rattle.jl_config.specs.Located.{Scene, site_name}
 use Rattle.jl_config.specs.Members.{IsMember, Reads}
 use Rattle.jl_config.specs.Places.{AreMarks, AreReadBy}
-use Rattle.jl_config.specs.Refusals.{Leads, IsOnCircle}
-use Rattle.jl_config.specs.Rounds.{edge_row, edge_rows}
+use Rattle.jl_config.specs.Refusals.{Leads, IsOnCycle}
+use Rattle.jl_config.specs.Cycles.{edge_row, edge_rows}
 use Rattle.jl_config.proofs.Listings.{Listing, Decided, decided_marked, decided_same, listing_each, listing_where, listing_same, listing_map, listing_option, listing_items, listing_below}
 use Rattle.jl_config.proofs.Lists.{row_at}
 use Rattle.jl_config.proofs.MemberFinds.{FoundAt, found_where, member_found}
 use Rattle.jl_config.proofs.MemberChains.{members_exist}
-use Rattle.jl_config.proofs.CyclePlaces.{marked_at, edges_below, edges_within, rounds_shows, rounds_has}
+use Rattle.jl_config.proofs.CyclePlaces.{marked_at, edges_below, edges_within, leading_back_shows, leading_back_has}
 use Rattle.jl_config.proofs.ReadMarks.{reads_exist}
 
 abbrev IsAt : Scene → List Bool → ℕ → Site → Type 0
@@ -35,31 +35,31 @@ reads_listed w a ps r =
     (λ b k. (r.only k.0 b k.1 k.2).0) (λ b k. r.all b k)
     (listing_each (λ p b. slice_get w.sites p ≡ Some b) (Contains ps) (listing_items ps) (λ p c. listing_option (slice_get w.sites p)))
 
--- a module of the set is on a circle exactly where its own row reaches its place
-decided_circle : (w : Scene) (marks : List Bool) → AreMarks w marks → (s : Site) → IsMember w s → Decided ((n : ℕ) × Leads w n s s)
-decided_circle w marks am s m =
+-- a module of the set is on a cycle exactly where its own row reaches its place
+decided_cycle : (w : Scene) (marks : List Bool) → AreMarks w marks → (s : Site) → IsMember w s → Decided ((n : ℕ) × Leads w n s s)
+decided_cycle w marks am s m =
     let place = marked_at w marks am s m in
     let f : FoundAt w place.0 s = place.1 in
     let row : get_or (edge_rows w marks) place.0 [] ≡ edge_row w marks s = row_at (edge_row w marks) w.sites place.0 s [] f.at in
     let below : All (λ p. p < length (edge_rows w marks)) (get_or (edge_rows w marks) place.0 []) = subst (All (λ p. p < length (edge_rows w marks))) (sym row) (edges_below w marks am s) in
     let raw = marks_exist (edge_rows w marks) (get_or (edge_rows w marks) place.0 []) (edges_within w marks am) below in
     decided_same (slice_get raw.0 place.0 ≡ Some true) ((n : ℕ) × Leads w n s s)
-    (λ e. rounds_shows w marks am place.0 s f.at (raw.1.only place.0 e))
-    (λ c. raw.1.all place.0 (rounds_has w marks am place.0 s f c.0 c.1))
+    (λ e. leading_back_shows w marks am place.0 s f.at (raw.1.only place.0 e))
+    (λ c. raw.1.all place.0 (leading_back_has w marks am place.0 s f c.0 c.1))
     (decided_marked (slice_get raw.0 place.0))
 
-circles_listed : (w : Scene) (marks : List Bool) → AreMarks w marks → Listing (IsOnCircle w)
-circles_listed w marks am =
-    listing_same (λ name. (s : Site) × (IsMember w s × ((n : ℕ) × Leads w n s s)) × (site_name s ≡ name)) (IsOnCircle w)
+cycles_listed : (w : Scene) (marks : List Bool) → AreMarks w marks → Listing (IsOnCycle w)
+cycles_listed w marks am =
+    listing_same (λ name. (s : Site) × (IsMember w s × ((n : ℕ) × Leads w n s s)) × (site_name s ≡ name)) (IsOnCycle w)
     (λ name k. (k.0, k.1.0, k.2, k.1.1)) (λ name k. (k.0, (k.1, k.3), k.2))
     (listing_map (λ s. IsMember w s × ((n : ℕ) × Leads w n s s)) site_name
-    (listing_where (IsMember w) (λ s. (n : ℕ) × Leads w n s s) (members_listed w marks am) (decided_circle w marks am)))
+    (listing_where (IsMember w) (λ s. (n : ℕ) × Leads w n s s) (members_listed w marks am) (decided_cycle w marks am)))
 
 -- what a resolution goes by
 pub record Lists (w : Scene) : Type 0 where
   pub members : Listing (IsMember w)
   pub reads : (a : Site) → IsMember w a → Listing (Reads w a)
-  pub circles : Listing (IsOnCircle w)
+  pub cycles : Listing (IsOnCycle w)
 
 pub all_listed : (w : Scene) → Lists w
 all_listed w =
@@ -67,5 +67,5 @@ all_listed w =
     record {
       members = members_listed w marks.0 marks.1;
       reads = λ a m. let r = reads_exist w marks.0 marks.1 a m in reads_listed w a r.0 r.1;
-      circles = circles_listed w marks.0 marks.1;
+      cycles = cycles_listed w marks.0 marks.1;
     }

@@ -9,7 +9,7 @@ use Rattle.jl_config.specs.Lineages.{is_reader, is_read_in, is_named, is_in}
 use Rattle.jl_config.specs.Located.{find_read, is_numbered}
 use Rattle.jl_config.specs.Places.{place_of_site}
 use Rattle.jl_config.specs.Tables.{first_where, places_where, first_of_places}
-use Rattle.jl_config.proofs.Sighted.{first_own}
+use Rattle.jl_config.proofs.Scenes.{first_own}
 use Rattle.std.proofs.Math.Bool.{and-false}
 use Rattle.jl_logic.specs.Order.{is_text}
 

@@ -7,7 +7,7 @@ use Rattle.jl_prim.specs.declared.declaration.Provides.{Provides}
 use Rattle.jl_prim.specs.declared.declaration.Observed.{Observed}
 use Rattle.jl_config.specs.declared.site.Site.{Site}
 use Rattle.jl_config.specs.declared.fault.ResolveFault.TheVariants.{NotFound, Cycle, SameName}
-use Rattle.jl_config.specs.Graphs.{Graph}
+use Rattle.jl_config.specs.Configurations.{Configuration}
 use Rattle.jl_config.specs.Located.{Asked, Scene, scene_of, lineage, ancestors, located, own_meaning}
 use Rattle.jl_config.specs.Members.{is_followed, is_passed_on, IsFound, IsJustified, Enumerated}
 use Rattle.jl_config.specs.Refusals.{fault_cmp, Exports}
@@ -41,7 +41,7 @@ x = module_of (codes "x") []
 abbrev y : Observed
 y = module_of (codes "y") (entry (codes "x") true false ∷ [])
 
-abbrev above : Graph
+abbrev above : Configuration
 above = record {
   id = record { 0 = 1 };
   parents = record { 0 = 0 } ∷ [];

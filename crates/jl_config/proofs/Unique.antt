@@ -6,11 +6,11 @@ use Rattle.jl_logic.proofs.Rising.{same_rising, same_least}
 use Rattle.jl_config.specs.declared.configuration.Read.{Read}
 use Rattle.jl_config.specs.declared.fault.ResolveFault.{ResolveFault}
 use Rattle.jl_config.specs.declared.fault.ResolveFault.TheVariants.{NoMemory}
-use Rattle.jl_config.specs.Graphs.{Graph}
+use Rattle.jl_config.specs.Configurations.{Configuration}
 use Rattle.jl_config.specs.Located.{Asked, Scene, scene_of}
 use Rattle.jl_config.specs.Orders.{module_cmp, read_cmp}
 use Rattle.jl_config.specs.Refusals.{Applies, fault_cmp}
-use Rattle.jl_config.specs.Resolves.{Resolves, AreModules, AreReads, IsGraphOf, new_site}
+use Rattle.jl_config.specs.Resolves.{Resolves, AreModules, AreReads, IsConfigurationOf, new_site}
 use Rattle.jl_config.proofs.FaultOrder.{fault_total, fault_exact, modules_apart, reads_apart}
 
 -- ---- what a refusal tells
@@ -36,16 +36,16 @@ reads_into w rs ss a b r c =
 same_reads : (w : Scene) (rs ss : List Read) → AreReads w rs → AreReads w ss → rs ≡ ss
 same_reads w rs ss a b = same_rising read_cmp reads_apart rs ss a.rise b.rise (reads_into w rs ss a b) (reads_into w ss rs b a)
 
-same_graph : (q : Asked) (g h : Graph) → IsGraphOf q g → IsGraphOf q h → g ≡ h
-same_graph q g h a b =
+same_configuration : (q : Asked) (g h : Configuration) → IsConfigurationOf q g → IsConfigurationOf q h → g ≡ h
+same_configuration q g h a b =
     let ids : g.id ≡ h.id = a.number ∙ sym b.number in
     let parents : g.parents ≡ h.parents = a.given ∙ sym b.given in
     let modules = same_modules q g.modules h.modules a.modules b.modules in
     let reads = same_reads (scene_of q) g.reads h.reads a.reads b.reads in
     λ i. record { id = ids i; parents = parents i; modules = modules i; reads = reads i }
 
-pub resolves_once : (q : Asked) (r s : Result Graph ResolveFault) → Resolves q r → Resolves q s → r ≢ Err NoMemory → s ≢ Err NoMemory → r ≡ s
-resolves_once q (Ok g) (Ok h) a b n m = ap Ok (same_graph q g h a.1 b.1)
+pub resolves_once : (q : Asked) (r s : Result Configuration ResolveFault) → Resolves q r → Resolves q s → r ≢ Err NoMemory → s ≢ Err NoMemory → r ≡ s
+resolves_once q (Ok g) (Ok h) a b n m = ap Ok (same_configuration q g h a.1 b.1)
 resolves_once q (Ok g) (Err f) a b n m = absurd (a.0 f (least_told q f (λ e. m (ap Err e)) b).has)
 resolves_once q (Err f) (Ok h) a b n m = absurd (b.0 f (least_told q f (λ e. n (ap Err e)) a).has)
 resolves_once q (Err f) (Err g) a b n m =

@@ -1,4 +1,4 @@
-pub mod Graphs
+pub mod Configurations
 pub mod Located
 pub mod Members
 pub mod Orders
@@ -11,7 +11,7 @@ pub mod Tables
 pub mod MemberRows
 pub mod Placed
 pub mod MissingNames
-pub mod Rounds
+pub mod Cycles
 pub mod ReadRows
 pub mod Collected
 pub mod Imported

@@ -4,18 +4,18 @@ use Rattle.std.specs.List.{flat_map}
 use Rattle.jl_prim.specs.declared.numbers.ConfigId.{ConfigId}
 use Rattle.jl_config.specs.declared.site.Site.{Site}
 use Rattle.jl_config.specs.declared.configuration.Read.{Read}
-use Rattle.jl_config.specs.Graphs.{Graph}
+use Rattle.jl_config.specs.Configurations.{Configuration}
 use Rattle.jl_logic.specs.Order.{is_text}
 use Rattle.jl_config.specs.Located.{sites_of, site_name, is_numbered}
 
 abbrev pub reads_with : ConfigId → List Read → List (ConfigId × Read)
 reads_with config rs = map (λ r. (config, r)) rs
 
-abbrev pub all_sites : List Graph → List Site
-all_sites gs = flat_map (λ (g : Graph). sites_of g.id g.modules) gs
+abbrev pub all_sites : List Configuration → List Site
+all_sites gs = flat_map (λ (g : Configuration). sites_of g.id g.modules) gs
 
-abbrev pub all_reads : List Graph → List (ConfigId × Read)
-all_reads gs = flat_map (λ (g : Graph). map (λ r. (g.id, r)) g.reads) gs
+abbrev pub all_reads : List Configuration → List (ConfigId × Read)
+all_reads gs = flat_map (λ (g : Configuration). map (λ r. (g.id, r)) g.reads) gs
 
 -- ---- reads and modules by their names
 

@@ -6,11 +6,11 @@ use Rattle.jl_prim.specs.declared.declaration.Observed.{Observed}
 use Rattle.jl_logic.specs.Order.{is_text}
 use Rattle.jl_config.specs.declared.site.Site.{Site}
 use Rattle.jl_config.specs.declared.configuration.Read.{Read}
-use Rattle.jl_config.specs.Graphs.{Graph}
+use Rattle.jl_config.specs.Configurations.{Configuration}
 
 -- the configurations that are known, what the two finders observe, the parents, the roots, and whether services are bound
 pub record Asked : Type 0 where
-  pub known : List Graph
+  pub known : List Configuration
   pub before : List Observed
   pub parents : List ConfigId
   pub after : List Observed
@@ -23,21 +23,21 @@ id_of q = record { 0 = length q.known + 1 }
 
 -- ---- ancestors
 
-abbrev pub empty_graph : Graph
-empty_graph = record { id = record { 0 = 0 }; parents = []; modules = []; reads = [] }
+abbrev pub empty_configuration : Configuration
+empty_configuration = record { id = record { 0 = 0 }; parents = []; modules = []; reads = [] }
 
 -- the configuration with a number; number 0 is the empty one
-abbrev pub graph_of : List Graph → ConfigId → Graph
-graph_of known c = slice_index_or (empty_graph ∷ known) c.0 empty_graph
+abbrev pub configuration_of : List Configuration → ConfigId → Configuration
+configuration_of known c = slice_index_or (empty_configuration ∷ known) c.0 empty_configuration
 
 -- the parent, its parent, and so on, n of them at most
-unfoldable pub lineage : ℕ → List Graph → List ConfigId → List Graph
+unfoldable pub lineage : ℕ → List Configuration → List ConfigId → List Configuration
 lineage zero known ps = []
 lineage (suc n) known [] = []
-lineage (suc n) known (p ∷ ps) = graph_of known p ∷ lineage n known (graph_of known p).parents
+lineage (suc n) known (p ∷ ps) = configuration_of known p ∷ lineage n known (configuration_of known p).parents
 
 -- The ancestors, the nearest first. Parents have lower numbers, so there are no more of them than known ones and the empty one.
-abbrev pub ancestors : Asked → List Graph
+abbrev pub ancestors : Asked → List Configuration
 ancestors q = lineage (length q.known + 1) q.known q.parents
 
 -- ---- what is in sight
@@ -57,8 +57,8 @@ sites_of id os = map (λ o. record { config = id; observed = o }) os
 abbrev pub scene_of : Asked → Scene
 scene_of q = record {
   id = id_of q;
-  sites = sites_of (id_of q) q.before ++ flat_map (λ (g : Graph). sites_of g.id g.modules) (ancestors q) ++ sites_of (id_of q) q.after;
-  reads = flat_map (λ (g : Graph). map (λ r. (g.id, r)) g.reads) (ancestors q);
+  sites = sites_of (id_of q) q.before ++ flat_map (λ (g : Configuration). sites_of g.id g.modules) (ancestors q) ++ sites_of (id_of q) q.after;
+  reads = flat_map (λ (g : Configuration). map (λ r. (g.id, r)) g.reads) (ancestors q);
   roots = q.roots;
   binds = q.binds;
 }

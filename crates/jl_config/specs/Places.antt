@@ -12,7 +12,7 @@ use Rattle.jl_config.specs.declared.fault.ResolveFault.TheVariants.{NotFound, Cy
 use Rattle.jl_config.specs.Located.{Scene, site_name, is_numbered, find_read}
 use Rattle.jl_config.specs.Members.{IsMember, Reads}
 use Rattle.jl_config.specs.Orders.{site_cmp}
-use Rattle.jl_config.specs.Refusals.{IsMissing, IsOnCircle, IsSameName, IsSamePackage, IsOwnPackage, IsServicePackage}
+use Rattle.jl_config.specs.Refusals.{IsMissing, IsOnCycle, IsSameName, IsSamePackage, IsOwnPackage, IsServicePackage}
 
 -- the place of the first of a name
 abbrev pub place_named : List ℕ → List Site → Option ℕ
@@ -68,7 +68,7 @@ MissingFault w (NotFound name by) = IsMissing w (name, by)
 MissingFault w _ = ⊥
 
 abbrev pub CycleFault : Scene → ResolveFault → Type 0
-CycleFault w (Cycle least) = IsOnCircle w least
+CycleFault w (Cycle least) = IsOnCycle w least
 CycleFault w _ = ⊥
 
 abbrev pub SameNameFault : Scene → ResolveFault → Type 0

@@ -29,7 +29,7 @@ most = 4096
 abbrev pub IsLarge : Scene → Type 0
 IsLarge w = (ss : List Site) × RisesBy site_cmp ss × All (IsMember w) ss × (most < length ss)
 
--- ---- circles
+-- ---- cycles
 
 -- a requires entry of a means the member b
 abbrev pub HasEdge : Scene → Site → Site → Type 0
@@ -40,8 +40,8 @@ abbrev pub Leads : Scene → ℕ → Site → Site → Type 0
 Leads w zero a b = HasEdge w a b
 Leads w (suc n) a b = (c : Site) × Leads w n a c × HasEdge w c b
 
-abbrev pub IsOnCircle : Scene → List ℕ → Type 0
-IsOnCircle w name = (s : Site) × IsMember w s × (site_name s ≡ name) × ((n : ℕ) × Leads w n s s)
+abbrev pub IsOnCycle : Scene → List ℕ → Type 0
+IsOnCycle w name = (s : Site) × IsMember w s × (site_name s ≡ name) × ((n : ℕ) × Leads w n s s)
 
 -- ---- packages
 
@@ -95,7 +95,7 @@ abbrev pub Applies : Asked → ResolveFault → Type 0
 Applies q NoParents = q.parents ≡ []
 Applies q (NotFound name by) = IsMissing (scene_of q) (name, by)
 Applies q TooMany = IsLarge (scene_of q) ⊎ (most ≤ length q.known)
-Applies q (Cycle least) = IsOnCircle (scene_of q) least
+Applies q (Cycle least) = IsOnCycle (scene_of q) least
 Applies q (SameName reader name) = IsSameName (scene_of q) (reader, name)
 Applies q (SamePackage reader p one other) = IsSamePackage (scene_of q) (reader, p, one, other)
 Applies q (OwnPackage reader p other) = IsOwnPackage (scene_of q) (reader, p, other)

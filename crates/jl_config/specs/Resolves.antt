@@ -7,14 +7,14 @@ use Rattle.jl_config.specs.declared.configuration.Read.{Read}
 use Rattle.jl_config.specs.declared.site.Site.{Site}
 use Rattle.jl_config.specs.declared.fault.ResolveFault.{ResolveFault}
 use Rattle.jl_config.specs.declared.fault.ResolveFault.TheVariants.{NoMemory}
-use Rattle.jl_config.specs.Graphs.{Graph}
+use Rattle.jl_config.specs.Configurations.{Configuration}
 use Rattle.jl_config.specs.Located.{Asked, Scene, scene_of, id_of, site_name}
 use Rattle.jl_config.specs.Members.{IsMember, IsBound, Reads}
 use Rattle.jl_config.specs.Orders.{module_cmp, read_cmp}
 use Rattle.jl_config.specs.Refusals.{Applies, fault_cmp}
 
 -- what a call asks
-abbrev pub asked : List Graph → List Observed → List ConfigId → List Observed → List (List ℕ) → Bool → Asked
+abbrev pub asked : List Configuration → List Observed → List ConfigId → List Observed → List (List ℕ) → Bool → Asked
 asked known before parents after roots binds =
     record { known = known; before = before; parents = parents; after = after; roots = roots; binds = binds }
 
@@ -38,18 +38,18 @@ pub record AreReads (w : Scene) (rs : List Read) : Type 0 where
   pub only : (r : Read) → Contains rs r → (a : Site) × (b : Site) × IsMember w a × Reads w a b × (r ≡ read_of a b)
   pub all : (a b : Site) → IsMember w a → Reads w a b → Contains rs (read_of a b)
 
-pub record IsGraphOf (q : Asked) (g : Graph) : Type 0 where
+pub record IsConfigurationOf (q : Asked) (g : Configuration) : Type 0 where
   pub number : g.id ≡ id_of q
   pub given : g.parents ≡ q.parents
   pub modules : AreModules q g.modules
   pub reads : AreReads (scene_of q) g.reads
 
 -- The answer of a resolution: of the refusals whose condition holds the first, with the least fields, or the graph where none holds. Want of memory tells nothing.
-abbrev pub Resolves : Asked → Result Graph ResolveFault → Type 0
-Resolves q (Ok g) = ((f : ResolveFault) → Applies q f → ⊥) × IsGraphOf q g
+abbrev pub Resolves : Asked → Result Configuration ResolveFault → Type 0
+Resolves q (Ok g) = ((f : ResolveFault) → Applies q f → ⊥) × IsConfigurationOf q g
 Resolves q (Err NoMemory) = ⊤
 Resolves q (Err f) = IsLeast fault_cmp (Applies q) f
 
 -- Each module ends a justified list, so none is superfluous.
-abbrev pub AreJustified : Asked → Graph → Type 0
+abbrev pub AreJustified : Asked → Configuration → Type 0
 AreJustified q g = (o : Observed) → Contains g.modules o → IsBound (scene_of q) (new_site q o)

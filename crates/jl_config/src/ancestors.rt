@@ -2,8 +2,7 @@
 
 ghost use Rattle.std.specs.Prelude.{◌≡◌, ◌≤◌, ◌+◌, ◌++◌, length, map, OnOk, MatchOption};
 ghost use Rattle.std.specs.List.{flat_map};
-ghost use Rattle.jl_config.specs.Graphs.{Graph};
-ghost use Rattle.jl_config.specs.Located.{empty_graph, graph_of, lineage, sites_of};
+ghost use Rattle.jl_config.specs.Located.{empty_configuration, configuration_of, lineage, sites_of};
 ghost use Rattle.jl_config.specs.Lineages.{reads_with, all_sites, all_reads};
 
 use crate::configuration::{Configuration, Read};
@@ -27,20 +26,20 @@ pub fn push_ancestors(
         let Some(parent) = next.first() else {
             return Ok(());
         };
-        let Some(graph) = graph_of(known, *parent) else {
+        let Some(ancestor) = configuration_of(known, *parent) else {
             return Ok(());
         };
-        push_sites(sites, graph.id(), graph.modules())?;
-        push_reads(reads, graph.id(), graph.reads())?;
-        next = graph.parents();
+        push_sites(sites, ancestor.id(), ancestor.modules())?;
+        push_reads(reads, ancestor.id(), ancestor.reads())?;
+        next = ancestor.parents();
         left -= 1;
     }
     Ok(())
 }
 
 /// The configuration with a number, but for the empty one.
-fn graph_of(known: &[Configuration], id: ConfigId) -> Option<&Configuration>
-    ensures { MatchOption result (graph_of known.now id ≡ empty_graph) (λ g. g.now ≡ graph_of known.now id) }
+fn configuration_of(known: &[Configuration], id: ConfigId) -> Option<&Configuration>
+    ensures { MatchOption result (configuration_of known.now id ≡ empty_configuration) (λ g. g.now ≡ configuration_of known.now id) }
 {
     if id.0 == 0 {
         return None;

@@ -34,9 +34,9 @@ pub struct Configuration {
 }
 
 impl Model for Configuration {
-    ghost use Rattle.jl_config.specs.Graphs.{Graph};
+    ghost use Rattle.jl_config.specs.Configurations as seen;
 
-    ghost Value = { Graph };
+    ghost Value = { seen.Configuration };
 
     ghost view = { λ c. record { id = c.id; parents = c.parents; modules = c.modules; reads = c.reads } };
 }

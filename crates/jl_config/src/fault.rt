@@ -20,7 +20,7 @@ pub enum ResolveFault {
     },
     /// The set has more modules than there may be, or so many configurations are known.
     TooMany,
-    /// Modules require each other in a circle; `least` is on one.
+    /// Modules require each other in a cycle; `least` is on one.
     Cycle {
         least: Name,
     },

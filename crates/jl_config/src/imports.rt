@@ -9,7 +9,7 @@ ghost use Rattle.jl_config.specs.Refusals.{ReachesBy};
 
 use crate::readings::Reading;
 use crate::same_name::name_at;
-use crate::sights::Sights;
+use crate::scene::Scene;
 use crate::site::Site;
 use crate::sorted::sorted_set;
 use jl_prim::{Copied, CopyEnd, Grant, Items, Name};
@@ -33,15 +33,15 @@ pub struct Imports {
 /// What each module of the set gets from other modules.
 pub fn imports_of(
     alloc: Global,
-    sights: &Sights,
+    scene: &Scene,
     readings: &[Reading],
 ) -> Result<Vec<Imports>, CopyEnd>
-    requires { AreReadings sights.now readings.now }
-    ensures { IfOk result (λ imports. AreImports sights.now imports.items) }
+    requires { AreReadings scene.now readings.now }
+    ensures { IfOk result (λ imports. AreImports scene.now imports.items) }
 {
     let mut imports = Vec::with_capacity(alloc, readings.len())?;
     for reading in readings {
-        let exported = exported_to(alloc, sights, reading)?;
+        let exported = exported_to(alloc, scene, reading)?;
         imports.push(Imports {
             reader: reading.reader,
             exported: Items::from_vec(exported),
@@ -50,15 +50,15 @@ pub fn imports_of(
     Ok(imports)
 }
 
-fn exported_to(alloc: Global, sights: &Sights, reading: &Reading) -> Result<Vec<Exported>, CopyEnd>
-    requires { IsReading sights.now reading.now }
+fn exported_to(alloc: Global, scene: &Scene, reading: &Reading) -> Result<Vec<Exported>, CopyEnd>
+    requires { IsReading scene.now reading.now }
     ensures rise { IfOk result (λ exported. RisesBy exported_cmp exported.items) }
-    ensures only { IfOk result (λ exported. (e : Exported) → Contains exported.items e → Among (IsExportedAt sights.now reading.now.reader) reading.now.read e) }
-    ensures all { IfOk result (λ exported. (e : Exported) → Among (IsExportedAt sights.now reading.now.reader) reading.now.read e → Contains exported.items e) }
+    ensures only { IfOk result (λ exported. (e : Exported) → Contains exported.items e → Among (IsExportedAt scene.now reading.now.reader) reading.now.read e) }
+    ensures all { IfOk result (λ exported. (e : Exported) → Among (IsExportedAt scene.now reading.now.reader) reading.now.read e → Contains exported.items e) }
 {
     let mut exported = Vec::new(alloc);
     for place in reading.read.as_slice() {
-        push_exports_at(&mut exported, sights, reading.reader, *place)?;
+        push_exports_at(&mut exported, scene, reading.reader, *place)?;
     }
     let sorted = sorted_set(exported)?;
     Ok(sorted)
@@ -66,16 +66,16 @@ fn exported_to(alloc: Global, sights: &Sights, reading: &Reading) -> Result<Vec<
 
 fn push_exports_at(
     exported: &mut Vec<Exported>,
-    sights: &Sights,
+    scene: &Scene,
     reader: usize,
     place: usize,
 ) -> Result<(), CopyEnd>
-    requires reader { reader < length sights.now.sites }
-    requires place { place < length sights.now.sites }
-    ensures { OnOk result (Adds exported.old.items exported.new.items (IsExportedAt sights.now reader place)) }
+    requires reader { reader < length scene.now.sites }
+    requires place { place < length scene.now.sites }
+    ensures { OnOk result (Adds exported.old.items exported.new.items (IsExportedAt scene.now reader place)) }
 {
-    let site = &sights.sites()[place];
-    let name = name_at(sights, reader);
+    let site = &scene.sites()[place];
+    let name = name_at(scene, reader);
     if site.observed.declaration.name == *name {
         return Ok(());
     }

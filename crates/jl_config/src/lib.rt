@@ -2,8 +2,8 @@
 #![tactic(auto)]
 
 mod ancestors;
-mod circle;
 mod configuration;
+mod cycle;
 mod fault;
 mod imports;
 mod law;
@@ -17,8 +17,8 @@ mod readings;
 mod reads;
 mod resolution;
 mod same_name;
+mod scene;
 mod services;
-mod sights;
 mod site;
 mod sorted;
 mod tables;
@@ -28,6 +28,3 @@ pub use fault::ResolveFault;
 pub use law::{refuses_where_one_holds, resolves_always, resolves_once};
 pub use resolution::resolve;
 pub use site::Site;
-
-#[cfg(test)]
-mod tests;

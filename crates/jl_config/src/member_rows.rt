@@ -8,7 +8,7 @@ ghost use Rattle.jl_config.specs.MemberRows.{found_place, needed_place, needed_p
 ghost use Rattle.jl_config.specs.Tables.{listed};
 
 use crate::provisions::{found_place, providers_of};
-use crate::sights::Sights;
+use crate::scene::Scene;
 use crate::site::Site;
 use indexmap::IndexMap;
 use jl_prim::{CopyEnd, Items, Name, Requires};
@@ -22,60 +22,60 @@ pub fn follows(entry: &Requires) -> bool
 }
 
 /// For each place in sight the places that its module brings in.
-pub fn rows_of(alloc: Global, sights: &Sights) -> Result<Vec<Items<usize>>, CopyEnd>
-    ensures { IfOk result (λ rows. rows.items ≡ member_rows sights.now) }
+pub fn rows_of(alloc: Global, scene: &Scene) -> Result<Vec<Items<usize>>, CopyEnd>
+    ensures { IfOk result (λ rows. rows.items ≡ member_rows scene.now) }
 {
-    let table = providers_of(alloc, sights)?;
-    rows_by(alloc, sights, &table)
+    let table = providers_of(alloc, scene)?;
+    rows_by(alloc, scene, &table)
 }
 
 fn rows_by(
     alloc: Global,
-    sights: &Sights,
+    scene: &Scene,
     table: &IndexMap<Name, Items<usize>>,
 ) -> Result<Vec<Items<usize>>, CopyEnd>
-    ensures { IfOk result (λ rows. rows.items ≡ map (member_row sights.now (listed table.now)) sights.now.sites) }
+    ensures { IfOk result (λ rows. rows.items ≡ map (member_row scene.now (listed table.now)) scene.now.sites) }
 {
-    let mut rows = Vec::with_capacity(alloc, sights.sites().len())?;
-    for site in sights.sites() {
-        rows.push(row_of(alloc, sights, table, site)?)?;
+    let mut rows = Vec::with_capacity(alloc, scene.sites().len())?;
+    for site in scene.sites() {
+        rows.push(row_of(alloc, scene, table, site)?)?;
     }
     Ok(rows)
 }
 
 fn row_of(
     alloc: Global,
-    sights: &Sights,
+    scene: &Scene,
     table: &IndexMap<Name, Items<usize>>,
     site: &Site,
 ) -> Result<Items<usize>, CopyEnd>
-    ensures { IfOk result (λ row. row ≡ member_row sights.now (listed table.now) site.now) }
+    ensures { IfOk result (λ row. row ≡ member_row scene.now (listed table.now) site.now) }
 {
     let mut row = Vec::new(alloc);
-    push_needed(&mut row, sights, site)?;
+    push_needed(&mut row, scene, site)?;
     for service in site.observed.declaration.uses.as_slice() {
         push_listed(&mut row, table, service)?;
     }
     Ok(Items::from_vec(row))
 }
 
-fn push_needed(row: &mut Vec<usize>, sights: &Sights, site: &Site) -> Result<(), CopyEnd>
-    ensures { OnOk result (row.new.items ≡ row.old.items ++ needed_places sights.now site.now) }
+fn push_needed(row: &mut Vec<usize>, scene: &Scene, site: &Site) -> Result<(), CopyEnd>
+    ensures { OnOk result (row.new.items ≡ row.old.items ++ needed_places scene.now site.now) }
 {
-    if !sights.is_here(site) {
+    if !scene.is_here(site) {
         return Ok(());
     }
     for entry in site.observed.declaration.required.as_slice() {
-        push_some(row, place_of_needed(sights, entry))?;
+        push_some(row, place_of_needed(scene, entry))?;
     }
     Ok(())
 }
 
-fn place_of_needed(sights: &Sights, entry: &Requires) -> Option<usize>
-    ensures { result ≡ needed_place sights.now entry.now }
+fn place_of_needed(scene: &Scene, entry: &Requires) -> Option<usize>
+    ensures { result ≡ needed_place scene.now entry.now }
 {
     if follows(entry) {
-        found_place(sights, &entry.name)
+        found_place(scene, &entry.name)
     } else {
         None
     }
@@ -114,32 +114,32 @@ fn push_all(row: &mut Vec<usize>, places: &[usize]) -> Result<(), CopyEnd>
 }
 
 /// The places with which the set begins: those of the roots, and with binding those of ancestors' modules.
-pub fn starts_of(alloc: Global, sights: &Sights) -> Result<Vec<usize>, CopyEnd>
-    ensures { IfOk result (λ starts. starts.items ≡ member_starts sights.now) }
+pub fn starts_of(alloc: Global, scene: &Scene) -> Result<Vec<usize>, CopyEnd>
+    ensures { IfOk result (λ starts. starts.items ≡ member_starts scene.now) }
 {
-    let mut starts = roots_found(alloc, sights)?;
-    push_above(&mut starts, sights)?;
+    let mut starts = roots_found(alloc, scene)?;
+    push_above(&mut starts, scene)?;
     Ok(starts)
 }
 
-fn roots_found(alloc: Global, sights: &Sights) -> Result<Vec<usize>, CopyEnd>
-    ensures { IfOk result (λ places. places.items ≡ filter_map (found_place sights.now) sights.now.roots) }
+fn roots_found(alloc: Global, scene: &Scene) -> Result<Vec<usize>, CopyEnd>
+    ensures { IfOk result (λ places. places.items ≡ filter_map (found_place scene.now) scene.now.roots) }
 {
     let mut places = Vec::new(alloc);
-    for name in sights.roots() {
-        push_some(&mut places, found_place(sights, name))?;
+    for name in scene.roots() {
+        push_some(&mut places, found_place(scene, name))?;
     }
     Ok(places)
 }
 
-fn push_above(starts: &mut Vec<usize>, sights: &Sights) -> Result<(), CopyEnd>
-    ensures { OnOk result (starts.new.items ≡ starts.old.items ++ (if sights.now.binds then above_from sights.now 0 sights.now.sites else [])) }
+fn push_above(starts: &mut Vec<usize>, scene: &Scene) -> Result<(), CopyEnd>
+    ensures { OnOk result (starts.new.items ≡ starts.old.items ++ (if scene.now.binds then above_from scene.now 0 scene.now.sites else [])) }
 {
-    if !sights.binds() {
+    if !scene.binds() {
         return Ok(());
     }
-    for (at, site) in sights.sites().iter().enumerate() {
-        if !sights.is_here(site) {
+    for (at, site) in scene.sites().iter().enumerate() {
+        if !scene.is_here(site) {
             starts.push(at)?;
         }
     }

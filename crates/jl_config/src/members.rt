@@ -6,7 +6,7 @@ ghost use Rattle.jl_config.specs.Places.{AreMarks, AreMembers};
 
 use crate::member_rows::{rows_of, starts_of};
 use crate::placed::{placed_of, places_of};
-use crate::sights::Sights;
+use crate::scene::Scene;
 use jl_closure::closure;
 use jl_prim::CopyEnd;
 use std::alloc::Global;
@@ -19,32 +19,32 @@ pub struct Members {
 }
 
 /// The modules that the roots bring in.
-pub fn members_of(alloc: Global, sights: &Sights) -> Result<Members, CopyEnd>
-    ensures marks { IfOk result (λ m. AreMarks sights.now m.marks.items) }
-    ensures places { IfOk result (λ m. AreMembers sights.now m.places.items) }
+pub fn members_of(alloc: Global, scene: &Scene) -> Result<Members, CopyEnd>
+    ensures marks { IfOk result (λ m. AreMarks scene.now m.marks.items) }
+    ensures places { IfOk result (λ m. AreMembers scene.now m.places.items) }
 {
-    let marks = marks_of(alloc, sights)?;
-    let placed = placed_of(alloc, sights.sites(), marks.as_slice())?;
+    let marks = marks_of(alloc, scene)?;
+    let placed = placed_of(alloc, scene.sites(), marks.as_slice())?;
     let places = places_of(alloc, placed.as_slice())?;
     Ok(Members { marks, places })
 }
 
-fn marks_of(alloc: Global, sights: &Sights) -> Result<Vec<bool>, CopyEnd>
-    ensures { IfOk result (λ marks. AreMarks sights.now marks.items) }
+fn marks_of(alloc: Global, scene: &Scene) -> Result<Vec<bool>, CopyEnd>
+    ensures { IfOk result (λ marks. AreMarks scene.now marks.items) }
 {
-    let rows = rows_of(alloc, sights)?;
-    let starts = starts_of(alloc, sights)?;
+    let rows = rows_of(alloc, scene)?;
+    let starts = starts_of(alloc, scene)?;
     let reached = closure(alloc, rows.as_slice(), starts.as_slice())?;
-    cleared_of(alloc, sights, reached.as_slice())
+    cleared_of(alloc, scene, reached.as_slice())
 }
 
-fn cleared_of(alloc: Global, sights: &Sights, marks: &[bool]) -> Result<Vec<bool>, CopyEnd>
-    requires { length sights.now.sites ≤ length marks.now }
-    ensures { IfOk result (λ kept. kept.items ≡ cleared sights.now sights.now.sites marks.now) }
+fn cleared_of(alloc: Global, scene: &Scene, marks: &[bool]) -> Result<Vec<bool>, CopyEnd>
+    requires { length scene.now.sites ≤ length marks.now }
+    ensures { IfOk result (λ kept. kept.items ≡ cleared scene.now scene.now.sites marks.now) }
 {
     let mut kept = Vec::with_capacity(alloc, marks.len())?;
-    for (at, site) in sights.sites().iter().enumerate() {
-        kept.push(marks[at] && sights.is_here(site))?;
+    for (at, site) in scene.sites().iter().enumerate() {
+        kept.push(marks[at] && scene.is_here(site))?;
     }
     Ok(kept)
 }

@@ -10,7 +10,7 @@ ghost use Rattle.jl_config.specs.Refusals.{fault_cmp};
 use crate::fault::ResolveFault;
 use crate::member_rows::follows;
 use crate::members::Members;
-use crate::sights::Sights;
+use crate::scene::Scene;
 use jl_prim::{Copied, CopyEnd, Name, Requires};
 
 /// A name that is not located, and the module that requires it, where it is no root.
@@ -21,11 +21,11 @@ pub struct Missing {
 }
 
 /// The refusal with the least of the roots, and of what the members require, that is not located.
-pub fn least_not_found(sights: &Sights, members: &Members) -> Result<Option<ResolveFault>, CopyEnd>
-    requires { AreMembers sights.now members.now.places.items }
-    ensures { IfOk result (λ found. IsLeastSome fault_cmp (MissingFault sights.now) found) }
+pub fn least_not_found(scene: &Scene, members: &Members) -> Result<Option<ResolveFault>, CopyEnd>
+    requires { AreMembers scene.now members.now.places.items }
+    ensures { IfOk result (λ found. IsLeastSome fault_cmp (MissingFault scene.now) found) }
 {
-    match least_missing(sights, members.places.as_slice())? {
+    match least_missing(scene, members.places.as_slice())? {
         None => Ok(None),
         Some(missing) => {
             let Missing { name, by } = missing;
@@ -34,62 +34,62 @@ pub fn least_not_found(sights: &Sights, members: &Members) -> Result<Option<Reso
     }
 }
 
-fn least_missing(sights: &Sights, places: &[usize]) -> Result<Option<Missing>, CopyEnd>
-    ensures { IfOk result (λ least. option_map lack_of least ≡ least_from None (all_missing sights.now places.now)) }
+fn least_missing(scene: &Scene, places: &[usize]) -> Result<Option<Missing>, CopyEnd>
+    ensures { IfOk result (λ least. option_map lack_of least ≡ least_from None (all_missing scene.now places.now)) }
 {
-    let mut least = least_of_roots(sights, sights.roots())?;
+    let mut least = least_of_roots(scene, scene.roots())?;
     for place in places {
-        least = least_at(sights, *place, least)?;
+        least = least_at(scene, *place, least)?;
     }
     Ok(least)
 }
 
-fn least_of_roots(sights: &Sights, roots: &[Name]) -> Result<Option<Missing>, CopyEnd>
-    ensures { IfOk result (λ least. option_map lack_of least ≡ least_from None (filter_map (root_missing sights.now) roots.now)) }
+fn least_of_roots(scene: &Scene, roots: &[Name]) -> Result<Option<Missing>, CopyEnd>
+    ensures { IfOk result (λ least. option_map lack_of least ≡ least_from None (filter_map (root_missing scene.now) roots.now)) }
 {
     let mut least = None;
     for name in roots {
-        least = lesser_of(least, missing_root(sights, name)?);
+        least = lesser_of(least, missing_root(scene, name)?);
     }
     Ok(least)
 }
 
 fn least_at(
-    sights: &Sights,
+    scene: &Scene,
     place: usize,
     earlier: Option<Missing>,
 ) -> Result<Option<Missing>, CopyEnd>
-    ensures { IfOk result (λ least. option_map lack_of least ≡ least_from (option_map lack_of earlier) (missing_at sights.now place)) }
+    ensures { IfOk result (λ least. option_map lack_of least ≡ least_from (option_map lack_of earlier) (missing_at scene.now place)) }
 {
-    match sights.sites().get(place) {
+    match scene.sites().get(place) {
         None => Ok(earlier),
         Some(site) => {
             let declaration = &site.observed.declaration;
             let entries = declaration.required.as_slice();
-            least_of_entries(sights, &declaration.name, entries, earlier)
+            least_of_entries(scene, &declaration.name, entries, earlier)
         }
     }
 }
 
 fn least_of_entries(
-    sights: &Sights,
+    scene: &Scene,
     by: &Name,
     entries: &[Requires],
     earlier: Option<Missing>,
 ) -> Result<Option<Missing>, CopyEnd>
-    ensures { IfOk result (λ least. option_map lack_of least ≡ least_from (option_map lack_of earlier) (missing_entries sights.now by.now entries.now)) }
+    ensures { IfOk result (λ least. option_map lack_of least ≡ least_from (option_map lack_of earlier) (missing_entries scene.now by.now entries.now)) }
 {
     let mut least = earlier;
     for entry in entries {
-        least = lesser_of(least, missing_entry(sights, by, entry)?);
+        least = lesser_of(least, missing_entry(scene, by, entry)?);
     }
     Ok(least)
 }
 
-fn missing_root(sights: &Sights, name: &Name) -> Result<Option<Missing>, CopyEnd>
-    ensures { IfOk result (λ missing. option_map lack_of missing ≡ root_missing sights.now name.now) }
+fn missing_root(scene: &Scene, name: &Name) -> Result<Option<Missing>, CopyEnd>
+    ensures { IfOk result (λ missing. option_map lack_of missing ≡ root_missing scene.now name.now) }
 {
-    if sights.named(name).is_some() {
+    if scene.named(name).is_some() {
         return Ok(None);
     }
     Ok(Some(Missing {
@@ -98,10 +98,10 @@ fn missing_root(sights: &Sights, name: &Name) -> Result<Option<Missing>, CopyEnd
     }))
 }
 
-fn missing_entry(sights: &Sights, by: &Name, entry: &Requires) -> Result<Option<Missing>, CopyEnd>
-    ensures { IfOk result (λ missing. option_map lack_of missing ≡ entry_missing sights.now by.now entry.now) }
+fn missing_entry(scene: &Scene, by: &Name, entry: &Requires) -> Result<Option<Missing>, CopyEnd>
+    ensures { IfOk result (λ missing. option_map lack_of missing ≡ entry_missing scene.now by.now entry.now) }
 {
-    if !follows(entry) || sights.named(&entry.name).is_some() {
+    if !follows(entry) || scene.named(&entry.name).is_some() {
         return Ok(None);
     }
     Ok(Some(Missing {

@@ -10,7 +10,7 @@ ghost use Rattle.jl_config.specs.Refusals.{fault_cmp};
 use crate::fault::ResolveFault;
 use crate::imports::{Exported, Imports};
 use crate::same_name::name_at;
-use crate::sights::Sights;
+use crate::scene::Scene;
 use crate::site::Site;
 use crate::sorted::{has_name, least_of, sorted_names};
 use jl_prim::{Copied, CopyEnd, Name};
@@ -36,15 +36,15 @@ pub struct OwnedPackage {
 /// The least reader that gets a package from two other modules, with the least such package and modules.
 pub fn least_same_package(
     alloc: Global,
-    sights: &Sights,
+    scene: &Scene,
     imports: &[Imports],
 ) -> Result<Option<ResolveFault>, CopyEnd>
-    requires { AreImports sights.now imports.now }
-    ensures { IfOk result (λ found. IsLeastSome fault_cmp (SamePackageFault sights.now) found) }
+    requires { AreImports scene.now imports.now }
+    ensures { IfOk result (λ found. IsLeastSome fault_cmp (SamePackageFault scene.now) found) }
 {
     let mut shared = Vec::new(alloc);
     for imported in imports {
-        push_shared(&mut shared, sights, imported)?;
+        push_shared(&mut shared, scene, imported)?;
     }
     Ok(fault_of_shared(least_of(shared)))
 }
@@ -66,28 +66,28 @@ fn fault_of_shared(shared: Option<SharedPackage>) -> Option<ResolveFault>
 /// Exports of one package stand side by side.
 fn push_shared(
     shared: &mut Vec<SharedPackage>,
-    sights: &Sights,
+    scene: &Scene,
     imports: &Imports,
 ) -> Result<(), CopyEnd>
-    requires { IsImport sights.now imports.now }
-    ensures { OnOk result (Adds shared.old.items shared.new.items (IsPackageShared sights.now imports.now)) }
+    requires { IsImport scene.now imports.now }
+    ensures { OnOk result (Adds shared.old.items shared.new.items (IsPackageShared scene.now imports.now)) }
 {
     for at in 1..imports.exported.len() {
-        push_shared_at(shared, sights, imports, at)?;
+        push_shared_at(shared, scene, imports, at)?;
     }
     Ok(())
 }
 
 fn push_shared_at(
     shared: &mut Vec<SharedPackage>,
-    sights: &Sights,
+    scene: &Scene,
     imports: &Imports,
     at: usize,
 ) -> Result<(), CopyEnd>
-    requires imports { IsImport sights.now imports.now }
+    requires imports { IsImport scene.now imports.now }
     requires later { 0 < at }
     requires within { at < length imports.now.exported }
-    ensures { OnOk result (Adds shared.old.items shared.new.items (IsPackageSharedAt sights.now imports.now at)) }
+    ensures { OnOk result (Adds shared.old.items shared.new.items (IsPackageSharedAt scene.now imports.now at)) }
 {
     let exported = imports.exported.as_slice();
     let one = &exported[at - 1];
@@ -96,7 +96,7 @@ fn push_shared_at(
         return Ok(());
     }
     shared.push(SharedPackage {
-        reader: name_at(sights, imports.reader).copy()?,
+        reader: name_at(scene, imports.reader).copy()?,
         package: other.package.copy()?,
         one: one.exporter.copy()?,
         other: other.exporter.copy()?,
@@ -108,15 +108,15 @@ fn push_shared_at(
 /// module.
 pub fn least_own_package(
     alloc: Global,
-    sights: &Sights,
+    scene: &Scene,
     imports: &[Imports],
 ) -> Result<Option<ResolveFault>, CopyEnd>
-    requires { AreImports sights.now imports.now }
-    ensures { IfOk result (λ found. IsLeastSome fault_cmp (OwnPackageFault sights.now) found) }
+    requires { AreImports scene.now imports.now }
+    ensures { IfOk result (λ found. IsLeastSome fault_cmp (OwnPackageFault scene.now) found) }
 {
     let mut owned = Vec::new(alloc);
     for imported in imports {
-        push_owned_in(&mut owned, sights, imported)?;
+        push_owned_in(&mut owned, scene, imported)?;
     }
     Ok(fault_of_owned(least_of(owned)))
 }
@@ -136,13 +136,13 @@ fn fault_of_owned(owned: Option<OwnedPackage>) -> Option<ResolveFault>
 
 fn push_owned_in(
     owned: &mut Vec<OwnedPackage>,
-    sights: &Sights,
+    scene: &Scene,
     imports: &Imports,
 ) -> Result<(), CopyEnd>
-    requires { IsImport sights.now imports.now }
-    ensures { OnOk result (Adds owned.old.items owned.new.items (IsOwnedIn sights.now imports.now)) }
+    requires { IsImport scene.now imports.now }
+    ensures { OnOk result (Adds owned.old.items owned.new.items (IsOwnedIn scene.now imports.now)) }
 {
-    let site = &sights.sites()[imports.reader];
+    let site = &scene.sites()[imports.reader];
     let packages = sorted_names(site.observed.declaration.packages.copy()?.into_vec())?;
     for exported in imports.exported.as_slice() {
         push_owned(owned, site, packages.as_slice(), exported)?;

@@ -4,7 +4,7 @@ ghost use Rattle.std.specs.Prelude.{◌≡◌, ◌++◌, List, ℕ, IfOk, OnOk};
 ghost use Rattle.jl_config.specs.MemberRows.{found_place, here_at, is_place, provided_by, provisions_of, provisions_from, offers, providers};
 ghost use Rattle.jl_config.specs.Tables.{listed};
 
-use crate::sights::Sights;
+use crate::scene::Scene;
 use crate::site::Site;
 use crate::tables::note_place;
 use indexmap::IndexMap;
@@ -19,31 +19,31 @@ pub struct Provision {
 }
 
 /// The place where a name is located, if a finder observes the module.
-pub fn found_place(sights: &Sights, name: &Name) -> Option<usize>
-    ensures { result ≡ found_place sights.now name.now }
+pub fn found_place(scene: &Scene, name: &Name) -> Option<usize>
+    ensures { result ≡ found_place scene.now name.now }
 {
-    let place = sights.named(name)?;
-    if is_here_at(sights, place) {
+    let place = scene.named(name)?;
+    if is_here_at(scene, place) {
         Some(place)
     } else {
         None
     }
 }
 
-fn is_here_at(sights: &Sights, place: usize) -> bool
-    ensures { result ≡ here_at sights.now place }
+fn is_here_at(scene: &Scene, place: usize) -> bool
+    ensures { result ≡ here_at scene.now place }
 {
-    match sights.sites().get(place) {
-        Some(site) => sights.is_here(site),
+    match scene.sites().get(place) {
+        Some(site) => scene.is_here(site),
         None => false,
     }
 }
 
 /// The services, and with binding for each the places of the modules that provide it.
-pub fn providers_of(alloc: Global, sights: &Sights) -> Result<IndexMap<Name, Items<usize>>, CopyEnd>
-    ensures { IfOk result (λ table. (service : List ℕ) → listed table service ≡ providers (offers sights.now) service) }
+pub fn providers_of(alloc: Global, scene: &Scene) -> Result<IndexMap<Name, Items<usize>>, CopyEnd>
+    ensures { IfOk result (λ table. (service : List ℕ) → listed table service ≡ providers (offers scene.now) service) }
 {
-    let provisions = offers_of(alloc, sights)?;
+    let provisions = offers_of(alloc, scene)?;
     table_of(alloc, provisions.as_slice())
 }
 
@@ -60,29 +60,29 @@ fn table_of(
     Ok(table)
 }
 
-fn offers_of(alloc: Global, sights: &Sights) -> Result<Vec<Provision>, CopyEnd>
-    ensures { IfOk result (λ all. all.items ≡ offers sights.now) }
+fn offers_of(alloc: Global, scene: &Scene) -> Result<Vec<Provision>, CopyEnd>
+    ensures { IfOk result (λ all. all.items ≡ offers scene.now) }
 {
     let mut all = Vec::new(alloc);
-    if !sights.binds() {
+    if !scene.binds() {
         return Ok(all);
     }
-    for (at, site) in sights.sites().iter().enumerate() {
-        push_provisions_of(&mut all, sights, at, site)?;
+    for (at, site) in scene.sites().iter().enumerate() {
+        push_provisions_of(&mut all, scene, at, site)?;
     }
     Ok(all)
 }
 
 fn push_provisions_of(
     all: &mut Vec<Provision>,
-    sights: &Sights,
+    scene: &Scene,
     at: usize,
     site: &Site,
 ) -> Result<(), CopyEnd>
-    ensures { OnOk result (all.new.items ≡ all.old.items ++ provisions_of sights.now at site.now) }
+    ensures { OnOk result (all.new.items ≡ all.old.items ++ provisions_of scene.now at site.now) }
 {
     let declaration = &site.observed.declaration;
-    if is_that(at, found_place(sights, &declaration.name)) {
+    if is_that(at, found_place(scene, &declaration.name)) {
         push_provisions(all, at, declaration.provides.as_slice())?;
     }
     Ok(())

@@ -9,7 +9,7 @@ ghost use Rattle.jl_closure.specs.Reached.{AreMarksOf};
 ghost use Rattle.jl_config.specs.ReadRows.{is_open, open_place, meant_place, required_places, passed_place, passed_places, read_rows, read_starts, marked_place, AreByName, AreReadings};
 
 use crate::members::Members;
-use crate::sights::Sights;
+use crate::scene::Scene;
 use crate::site::Site;
 use crate::sorted::sorted_set;
 use jl_closure::closure;
@@ -34,19 +34,19 @@ pub struct Placed {
 /// What each module of the set reads, in the order of the readers' names (JLS 7.7.1).
 pub fn readings_of(
     alloc: Global,
-    sights: &Sights,
+    scene: &Scene,
     members: &Members,
 ) -> Result<Vec<Reading>, CopyEnd>
-    requires marks { AreMarks sights.now members.now.marks.items }
-    requires places { AreMembers sights.now members.now.places.items }
-    ensures { IfOk result (λ readings. AreReadings sights.now readings.items) }
+    requires marks { AreMarks scene.now members.now.marks.items }
+    requires places { AreMembers scene.now members.now.places.items }
+    ensures { IfOk result (λ readings. AreReadings scene.now readings.items) }
 {
     let marks = members.marks.as_slice();
-    let next = rows_of(alloc, sights, marks)?;
-    let order = places_by_name(alloc, sights)?;
+    let next = rows_of(alloc, scene, marks)?;
+    let order = places_by_name(alloc, scene)?;
     let mut readings = Vec::with_capacity(alloc, members.places.len())?;
     for place in members.places.as_slice() {
-        let reached = marks_of_reader(alloc, sights, marks, next.as_slice(), *place)?;
+        let reached = marks_of_reader(alloc, scene, marks, next.as_slice(), *place)?;
         let read = marked_places(alloc, order.as_slice(), reached.as_slice())?;
         readings.push(Reading {
             reader: *place,
@@ -91,22 +91,22 @@ fn push_some(places: &mut Vec<usize>, place: Option<usize>) -> Result<(), CopyEn
 }
 
 /// Whether the module at a place is an ancestor's or marked.
-fn is_open(sights: &Sights, marks: &[bool], place: usize) -> bool
-    ensures { result ≡ is_open sights.now marks.now place }
+fn is_open(scene: &Scene, marks: &[bool], place: usize) -> bool
+    ensures { result ≡ is_open scene.now marks.now place }
 {
-    match sights.sites().get(place) {
+    match scene.sites().get(place) {
         None => false,
-        Some(site) => !sights.is_here(site) || is_marked(marks, place),
+        Some(site) => !scene.is_here(site) || is_marked(marks, place),
     }
 }
 
-fn place_if_open(sights: &Sights, marks: &[bool], place: Option<usize>) -> Option<usize>
-    ensures { result ≡ open_place sights.now marks.now place }
+fn place_if_open(scene: &Scene, marks: &[bool], place: Option<usize>) -> Option<usize>
+    ensures { result ≡ open_place scene.now marks.now place }
 {
     match place {
         None => None,
         Some(place) => {
-            if is_open(sights, marks, place) {
+            if is_open(scene, marks, place) {
                 Some(place)
             } else {
                 None
@@ -116,21 +116,21 @@ fn place_if_open(sights: &Sights, marks: &[bool], place: Option<usize>) -> Optio
 }
 
 /// The place of the module that a name means to a module.
-fn place_meant(sights: &Sights, marks: &[bool], site: &Site, name: &Name) -> Option<usize>
-    ensures { result ≡ meant_place sights.now marks.now site.now name.now }
+fn place_meant(scene: &Scene, marks: &[bool], site: &Site, name: &Name) -> Option<usize>
+    ensures { result ≡ meant_place scene.now marks.now site.now name.now }
 {
-    if sights.is_here(site) {
-        place_if_open(sights, marks, sights.named(name))
+    if scene.is_here(site) {
+        place_if_open(scene, marks, scene.named(name))
     } else {
-        sights.own(site, name)
+        scene.own(site, name)
     }
 }
 
-fn place_passed_on(sights: &Sights, marks: &[bool], site: &Site, entry: &Requires) -> Option<usize>
-    ensures { result ≡ passed_place sights.now marks.now site.now entry.now }
+fn place_passed_on(scene: &Scene, marks: &[bool], site: &Site, entry: &Requires) -> Option<usize>
+    ensures { result ≡ passed_place scene.now marks.now site.now entry.now }
 {
     if is_passed_on(entry) {
-        place_meant(sights, marks, site, &entry.name)
+        place_meant(scene, marks, site, &entry.name)
     } else {
         None
     }
@@ -139,15 +139,15 @@ fn place_passed_on(sights: &Sights, marks: &[bool], site: &Site, entry: &Require
 /// The places of what a module requires.
 fn places_required(
     alloc: Global,
-    sights: &Sights,
+    scene: &Scene,
     marks: &[bool],
     site: &Site,
 ) -> Result<Vec<usize>, CopyEnd>
-    ensures { IfOk result (λ places. places.items ≡ required_places sights.now marks.now site.now) }
+    ensures { IfOk result (λ places. places.items ≡ required_places scene.now marks.now site.now) }
 {
     let mut places = Vec::new(alloc);
     for entry in site.observed.declaration.required.as_slice() {
-        push_some(&mut places, place_meant(sights, marks, site, &entry.name))?;
+        push_some(&mut places, place_meant(scene, marks, site, &entry.name))?;
     }
     Ok(places)
 }
@@ -155,27 +155,27 @@ fn places_required(
 /// The places of what a module requires transitively.
 fn places_passed_on(
     alloc: Global,
-    sights: &Sights,
+    scene: &Scene,
     marks: &[bool],
     site: &Site,
 ) -> Result<Vec<usize>, CopyEnd>
-    ensures { IfOk result (λ places. places.items ≡ passed_places sights.now marks.now site.now) }
+    ensures { IfOk result (λ places. places.items ≡ passed_places scene.now marks.now site.now) }
 {
     let mut places = Vec::new(alloc);
     for entry in site.observed.declaration.required.as_slice() {
-        push_some(&mut places, place_passed_on(sights, marks, site, entry))?;
+        push_some(&mut places, place_passed_on(scene, marks, site, entry))?;
     }
     Ok(places)
 }
 
 /// For each place in sight the places of what the module there passes on.
-fn rows_of(alloc: Global, sights: &Sights, marks: &[bool]) -> Result<Vec<Items<usize>>, CopyEnd>
-    ensures { IfOk result (λ rows. rows.items ≡ read_rows sights.now marks.now) }
+fn rows_of(alloc: Global, scene: &Scene, marks: &[bool]) -> Result<Vec<Items<usize>>, CopyEnd>
+    ensures { IfOk result (λ rows. rows.items ≡ read_rows scene.now marks.now) }
 {
-    let sites = sights.sites();
+    let sites = scene.sites();
     let mut rows = Vec::with_capacity(alloc, sites.len())?;
     for site in sites {
-        rows.push(Items::from_vec(places_passed_on(alloc, sights, marks, site)?))?;
+        rows.push(Items::from_vec(places_passed_on(alloc, scene, marks, site)?))?;
     }
     Ok(rows)
 }
@@ -183,26 +183,26 @@ fn rows_of(alloc: Global, sights: &Sights, marks: &[bool]) -> Result<Vec<Items<u
 /// Marks what the module at a place reads, itself too. What follows a module is what it passes on.
 fn marks_of_reader(
     alloc: Global,
-    sights: &Sights,
+    scene: &Scene,
     marks: &[bool],
     next: &[Items<usize>],
     place: usize,
 ) -> Result<Vec<bool>, CopyEnd>
-    requires rows { next.now ≡ read_rows sights.now marks.now }
-    requires within { place < length sights.now.sites }
-    ensures { IfOk result (λ reached. (a : Site) → slice_get sights.now.sites place ≡ Some a → AreMarksOf (read_rows sights.now marks.now) (read_starts sights.now marks.now a place) reached.items) }
+    requires rows { next.now ≡ read_rows scene.now marks.now }
+    requires within { place < length scene.now.sites }
+    ensures { IfOk result (λ reached. (a : Site) → slice_get scene.now.sites place ≡ Some a → AreMarksOf (read_rows scene.now marks.now) (read_starts scene.now marks.now a place) reached.items) }
 {
-    let mut starts = places_required(alloc, sights, marks, &sights.sites()[place])?;
+    let mut starts = places_required(alloc, scene, marks, &scene.sites()[place])?;
     starts.push(place)?;
     Ok(closure(alloc, next, starts.as_slice())?)
 }
 
 /// All places in sight, in the order of the names there and then of the places.
-fn places_by_name(alloc: Global, sights: &Sights) -> Result<Vec<Placed>, CopyEnd>
-    ensures { IfOk result (λ order. AreByName sights.now order.items) }
+fn places_by_name(alloc: Global, scene: &Scene) -> Result<Vec<Placed>, CopyEnd>
+    ensures { IfOk result (λ order. AreByName scene.now order.items) }
 {
-    let mut order = Vec::with_capacity(alloc, sights.sites().len())?;
-    for (place, site) in sights.sites().iter().enumerate() {
+    let mut order = Vec::with_capacity(alloc, scene.sites().len())?;
+    for (place, site) in scene.sites().iter().enumerate() {
         order.push(Placed {
             name: site.observed.declaration.name.copy()?,
             place,

@@ -12,7 +12,7 @@ ghost use Rattle.jl_config.specs.Settled.{StartsAt, Settles};
 ghost use Rattle.jl_config.specs.declared.fault.ResolveFault.{ResolveFault};
 ghost use Rattle.jl_config.specs.declared.site.Site.{Site};
 
-use crate::circle::least_cycle;
+use crate::cycle::least_cycle;
 use crate::configuration::Configuration;
 use crate::fault::ResolveFault;
 use crate::imports::{Imports, imports_of};
@@ -23,7 +23,7 @@ use crate::readings::{Reading, readings_of};
 use crate::reads::reads_of;
 use crate::same_name::least_same_name;
 use crate::services::least_service;
-use crate::sights::Sights;
+use crate::scene::Scene;
 use jl_prim::{ConfigId, Copied, CopyEnd, Found, Items, Name, Observed};
 use std::alloc::Global;
 
@@ -49,51 +49,51 @@ pub fn resolve(
     if parents.is_empty() {
         return Err(ResolveFault::NoParents);
     }
-    let sights = Sights::of(alloc, known, before, parents, after, roots, bind)?;
-    resolve_over(alloc, &sights, known.len(), parents)
+    let scene = Scene::of(alloc, known, before, parents, after, roots, bind)?;
+    resolve_over(alloc, &scene, known.len(), parents)
 }
 
 fn resolve_over(
     alloc: Global,
-    sights: &Sights,
+    scene: &Scene,
     known: usize,
     parents: &[ConfigId],
 ) -> Result<Configuration, ResolveFault>
     requires { known ≤ 4096 }
-    ensures resolves { (q : Asked) → sights.now ≡ scene_of q → length q.known ≡ known → q.parents ≡ parents.now → StartsAt q 1 → Resolves q result }
-    ensures justified { (q : Asked) → sights.now ≡ scene_of q → IfOk result (λ g. AreJustified q g) }
+    ensures resolves { (q : Asked) → scene.now ≡ scene_of q → length q.known ≡ known → q.parents ≡ parents.now → StartsAt q 1 → Resolves q result }
+    ensures justified { (q : Asked) → scene.now ≡ scene_of q → IfOk result (λ g. AreJustified q g) }
 {
-    let members = members_of(alloc, sights)?;
-    if let Some(fault) = least_early(alloc, sights, &members, known)? {
+    let members = members_of(alloc, scene)?;
+    if let Some(fault) = least_early(alloc, scene, &members, known)? {
         return Err(fault);
     }
-    let readings = readings_of(alloc, sights, &members)?;
-    if let Some(fault) = least_later(alloc, sights, readings.as_slice())? {
+    let readings = readings_of(alloc, scene, &members)?;
+    if let Some(fault) = least_later(alloc, scene, readings.as_slice())? {
         return Err(fault);
     }
     let id = ConfigId(known as u32 + 1);
-    let graph = graph_of(alloc, sights, id, parents, &members, readings.as_slice())?;
+    let graph = configuration_of(alloc, scene, id, parents, &members, readings.as_slice())?;
     Ok(graph)
 }
 
 // The refusal that is decided by the members alone.
 fn least_early(
     alloc: Global,
-    sights: &Sights,
+    scene: &Scene,
     members: &Members,
     known: usize,
 ) -> Result<Option<ResolveFault>, CopyEnd>
-    requires marks { AreMarks sights.now members.now.marks.items }
-    requires places { AreMembers sights.now members.now.places.items }
-    ensures { IfOk result (λ found. (q : Asked) → sights.now ≡ scene_of q → length q.known ≡ known → StartsAt q 1 → Settles q 4 found) }
+    requires marks { AreMarks scene.now members.now.marks.items }
+    requires places { AreMembers scene.now members.now.places.items }
+    ensures { IfOk result (λ found. (q : Asked) → scene.now ≡ scene_of q → length q.known ≡ known → StartsAt q 1 → Settles q 4 found) }
 {
-    if let Some(fault) = least_not_found(sights, members)? {
+    if let Some(fault) = least_not_found(scene, members)? {
         return Ok(Some(fault));
     }
     if are_too_many(members.places.as_slice(), known) {
         return Ok(Some(ResolveFault::TooMany));
     }
-    least_cycle(alloc, sights, members)
+    least_cycle(alloc, scene, members)
 }
 
 fn are_too_many(places: &[usize], known: usize) -> bool
@@ -107,55 +107,55 @@ fn are_too_many(places: &[usize], known: usize) -> bool
 // The refusal that is decided by what the members read.
 fn least_later(
     alloc: Global,
-    sights: &Sights,
+    scene: &Scene,
     readings: &[Reading],
 ) -> Result<Option<ResolveFault>, CopyEnd>
-    requires { AreReadings sights.now readings.now }
-    ensures settles { IfOk result (λ found. (q : Asked) → sights.now ≡ scene_of q → StartsAt q 4 → Settles q 8 found) }
-    ensures apart { IfOk result (λ found. found ≡ None → (f : ResolveFault) → SameNameFault sights.now f → ⊥) }
+    requires { AreReadings scene.now readings.now }
+    ensures settles { IfOk result (λ found. (q : Asked) → scene.now ≡ scene_of q → StartsAt q 4 → Settles q 8 found) }
+    ensures apart { IfOk result (λ found. found ≡ None → (f : ResolveFault) → SameNameFault scene.now f → ⊥) }
 {
-    if let Some(fault) = least_same_name(alloc, sights, readings)? {
+    if let Some(fault) = least_same_name(alloc, scene, readings)? {
         return Ok(Some(fault));
     }
-    let imports = imports_of(alloc, sights, readings)?;
-    least_by_imports(alloc, sights, imports.as_slice())
+    let imports = imports_of(alloc, scene, readings)?;
+    least_by_imports(alloc, scene, imports.as_slice())
 }
 
 fn least_by_imports(
     alloc: Global,
-    sights: &Sights,
+    scene: &Scene,
     imports: &[Imports],
 ) -> Result<Option<ResolveFault>, CopyEnd>
-    requires imports { AreImports sights.now imports.now }
-    requires apart { (f : ResolveFault) → SameNameFault sights.now f → ⊥ }
-    ensures { IfOk result (λ found. (q : Asked) → sights.now ≡ scene_of q → StartsAt q 5 → Settles q 8 found) }
+    requires imports { AreImports scene.now imports.now }
+    requires apart { (f : ResolveFault) → SameNameFault scene.now f → ⊥ }
+    ensures { IfOk result (λ found. (q : Asked) → scene.now ≡ scene_of q → StartsAt q 5 → Settles q 8 found) }
 {
-    if let Some(fault) = least_same_package(alloc, sights, imports)? {
+    if let Some(fault) = least_same_package(alloc, scene, imports)? {
         return Ok(Some(fault));
     }
-    if let Some(fault) = least_own_package(alloc, sights, imports)? {
+    if let Some(fault) = least_own_package(alloc, scene, imports)? {
         return Ok(Some(fault));
     }
-    least_service(alloc, sights, imports)
+    least_service(alloc, scene, imports)
 }
 
-fn graph_of(
+fn configuration_of(
     alloc: Global,
-    sights: &Sights,
+    scene: &Scene,
     id: ConfigId,
     parents: &[ConfigId],
     members: &Members,
     readings: &[Reading],
 ) -> Result<Configuration, CopyEnd>
-    requires readings { AreReadings sights.now readings.now }
-    requires apart { (f : ResolveFault) → SameNameFault sights.now f → ⊥ }
+    requires readings { AreReadings scene.now readings.now }
+    requires apart { (f : ResolveFault) → SameNameFault scene.now f → ⊥ }
     ensures number { IfOk result (λ g. g.id ≡ id) }
     ensures given { IfOk result (λ g. g.parents ≡ parents.now) }
-    ensures modules { IfOk result (λ g. g.modules ≡ modules_at sights.now members.now.places.items) }
-    ensures reads { IfOk result (λ g. AreReads sights.now g.reads) }
+    ensures modules { IfOk result (λ g. g.modules ≡ modules_at scene.now members.now.places.items) }
+    ensures reads { IfOk result (λ g. AreReads scene.now g.reads) }
 {
-    let modules = copies_at(alloc, sights, members.places.as_slice())?;
-    let reads = reads_of(alloc, sights, readings)?;
+    let modules = copies_at(alloc, scene, members.places.as_slice())?;
+    let reads = reads_of(alloc, scene, readings)?;
     Ok(Configuration::from_parts(
         id,
         Items::from_vec(Vec::from_slice(alloc, parents)?),
@@ -164,20 +164,20 @@ fn graph_of(
     ))
 }
 
-fn copies_at(alloc: Global, sights: &Sights, places: &[usize]) -> Result<Vec<Observed>, CopyEnd>
-    ensures { IfOk result (λ copies. copies.items ≡ modules_at sights.now places.now) }
+fn copies_at(alloc: Global, scene: &Scene, places: &[usize]) -> Result<Vec<Observed>, CopyEnd>
+    ensures { IfOk result (λ copies. copies.items ≡ modules_at scene.now places.now) }
 {
     let mut copies = Vec::with_capacity(alloc, places.len())?;
     for place in places {
-        push_copy(&mut copies, sights, *place)?;
+        push_copy(&mut copies, scene, *place)?;
     }
     Ok(copies)
 }
 
-fn push_copy(copies: &mut Vec<Observed>, sights: &Sights, place: usize) -> Result<(), CopyEnd>
-    ensures { OnOk result (copies.new.items ≡ copies.old.items ++ map (λ (s : Site). s.observed) (option_to_list (slice_get sights.now.sites place))) }
+fn push_copy(copies: &mut Vec<Observed>, scene: &Scene, place: usize) -> Result<(), CopyEnd>
+    ensures { OnOk result (copies.new.items ≡ copies.old.items ++ map (λ (s : Site). s.observed) (option_to_list (slice_get scene.now.sites place))) }
 {
-    if let Some(site) = sights.sites().get(place) {
+    if let Some(site) = scene.sites().get(place) {
         copies.push(site.observed.copy()?)?;
     }
     Ok(())

@@ -9,7 +9,7 @@ ghost use Rattle.jl_config.specs.Refusals.{fault_cmp};
 
 use crate::fault::ResolveFault;
 use crate::readings::Reading;
-use crate::sights::Sights;
+use crate::scene::Scene;
 use crate::sorted::least_of;
 use jl_prim::{Copied, CopyEnd, Name};
 use std::alloc::Global;
@@ -24,15 +24,15 @@ pub struct SharedName {
 /// The least reader of two modules of one name, with the least such name.
 pub fn least_same_name(
     alloc: Global,
-    sights: &Sights,
+    scene: &Scene,
     readings: &[Reading],
 ) -> Result<Option<ResolveFault>, CopyEnd>
-    requires { AreReadings sights.now readings.now }
-    ensures { IfOk result (λ found. IsLeastSome fault_cmp (SameNameFault sights.now) found) }
+    requires { AreReadings scene.now readings.now }
+    ensures { IfOk result (λ found. IsLeastSome fault_cmp (SameNameFault scene.now) found) }
 {
     let mut shared = Vec::new(alloc);
     for reading in readings {
-        push_shared(&mut shared, sights, reading)?;
+        push_shared(&mut shared, scene, reading)?;
     }
     Ok(fault_of(least_of(shared)))
 }
@@ -52,45 +52,45 @@ fn fault_of(shared: Option<SharedName>) -> Option<ResolveFault>
 /// Modules of one name stand side by side in a reading.
 fn push_shared(
     shared: &mut Vec<SharedName>,
-    sights: &Sights,
+    scene: &Scene,
     reading: &Reading,
 ) -> Result<(), CopyEnd>
-    requires { IsReading sights.now reading.now }
-    ensures { OnOk result (Adds shared.old.items shared.new.items (IsShared sights.now reading.now)) }
+    requires { IsReading scene.now reading.now }
+    ensures { OnOk result (Adds shared.old.items shared.new.items (IsShared scene.now reading.now)) }
 {
     for at in 1..reading.read.len() {
-        push_shared_at(shared, sights, reading, at)?;
+        push_shared_at(shared, scene, reading, at)?;
     }
     Ok(())
 }
 
 fn push_shared_at(
     shared: &mut Vec<SharedName>,
-    sights: &Sights,
+    scene: &Scene,
     reading: &Reading,
     at: usize,
 ) -> Result<(), CopyEnd>
-    requires reading { IsReading sights.now reading.now }
+    requires reading { IsReading scene.now reading.now }
     requires later { 0 < at }
     requires within { at < length reading.now.read }
-    ensures { OnOk result (Adds shared.old.items shared.new.items (IsSharedAt sights.now reading.now at)) }
+    ensures { OnOk result (Adds shared.old.items shared.new.items (IsSharedAt scene.now reading.now at)) }
 {
     let read = reading.read.as_slice();
-    let name = name_at(sights, read[at]);
-    if name_at(sights, read[at - 1]) != name {
+    let name = name_at(scene, read[at]);
+    if name_at(scene, read[at - 1]) != name {
         return Ok(());
     }
     shared.push(SharedName {
-        reader: name_at(sights, reading.reader).copy()?,
+        reader: name_at(scene, reading.reader).copy()?,
         name: name.copy()?,
     })?;
     Ok(())
 }
 
 /// The name of the module at a place in sight.
-pub fn name_at(sights: &Sights, place: usize) -> &Name
-    requires { place < length sights.now.sites }
-    ensures { result.now ≡ name_at sights.now place }
+pub fn name_at(scene: &Scene, place: usize) -> &Name
+    requires { place < length scene.now.sites }
+    ensures { result.now ≡ name_at scene.now place }
 {
-    &sights.sites()[place].observed.declaration.name
+    &scene.sites()[place].observed.declaration.name
 }

@@ -11,7 +11,7 @@ ghost use Rattle.jl_config.specs.declared.fault.ResolveFault.{ResolveFault};
 
 use crate::fault::ResolveFault;
 use crate::imports::{Exported, Imports, reaches};
-use crate::sights::Sights;
+use crate::scene::Scene;
 use crate::site::Site;
 use crate::sorted::{has_name, least_of, sorted_names};
 use jl_names::package_of;
@@ -29,16 +29,16 @@ pub struct UnseenService {
 /// such service, where no module reads two of one name.
 pub fn least_service(
     alloc: Global,
-    sights: &Sights,
+    scene: &Scene,
     imports: &[Imports],
 ) -> Result<Option<ResolveFault>, CopyEnd>
-    requires imports { AreImports sights.now imports.now }
-    requires apart { (f : ResolveFault) → SameNameFault sights.now f → ⊥ }
-    ensures { IfOk result (λ found. IsLeastSome fault_cmp (ServiceFault sights.now) found) }
+    requires imports { AreImports scene.now imports.now }
+    requires apart { (f : ResolveFault) → SameNameFault scene.now f → ⊥ }
+    ensures { IfOk result (λ found. IsLeastSome fault_cmp (ServiceFault scene.now) found) }
 {
     let mut unseen = Vec::new(alloc);
     for imported in imports {
-        push_unseen_in(&mut unseen, sights, imported)?;
+        push_unseen_in(&mut unseen, scene, imported)?;
     }
     Ok(fault_of(least_of(unseen)))
 }
@@ -57,13 +57,13 @@ fn fault_of(unseen: Option<UnseenService>) -> Option<ResolveFault>
 
 fn push_unseen_in(
     unseen: &mut Vec<UnseenService>,
-    sights: &Sights,
+    scene: &Scene,
     imports: &Imports,
 ) -> Result<(), CopyEnd>
-    requires { IsImport sights.now imports.now }
-    ensures { OnOk result (Adds unseen.old.items unseen.new.items (IsUnseenIn sights.now imports.now)) }
+    requires { IsImport scene.now imports.now }
+    ensures { OnOk result (Adds unseen.old.items unseen.new.items (IsUnseenIn scene.now imports.now)) }
 {
-    let site = &sights.sites()[imports.reader];
+    let site = &scene.sites()[imports.reader];
     let own = own_packages(site)?;
     let exported = imports.exported.as_slice();
     push_unseen_uses(unseen, site, own.as_slice(), exported)?;

@@ -5,7 +5,7 @@ use Rattle.jl_prim.specs.declared.declaration.Observed.{Observed}
 use Rattle.jl_tree.specs.Files.{File}
 use Rattle.jl_config.specs.declared.fault.ResolveFault.{ResolveFault}
 use Rattle.jl_config.specs.declared.fault.ResolveFault.TheVariants as resolves
-use Rattle.jl_config.specs.Graphs.{Graph}
+use Rattle.jl_config.specs.Configurations.{Configuration}
 use Rattle.jl_config.specs.Laws.{ResolvesAlways}
 use Rattle.jl_finder.specs.Observed.{observed}
 use Rattle.jl_finder.specs.declared.fault.FindFault.{FindFault}
@@ -26,7 +26,7 @@ Some_end P = (end : LaunchEnd) × (lines : List (List ℕ)) × P end lines
 refused : (f : ResolveFault) → Some_end (IsRefused (Resolve f))
 refused f = (Refused (Resolve f), refusal_line (Resolve f) ∷ [], (refl, refl))
 
-printed : (r : Result Graph ResolveFault) → r ≢ Err resolves.NoMemory → Some_end (IsPrinted r)
+printed : (r : Result Configuration ResolveFault) → r ≢ Err resolves.NoMemory → Some_end (IsPrinted r)
 printed (Ok g) told = (Done, graph_lines g, (refl, refl))
 printed (Err resolves.NoParents) told = refused resolves.NoParents
 printed (Err (resolves.NotFound name by)) told = refused (resolves.NotFound name by)

@@ -5,7 +5,7 @@ use Rattle.jl_prim.specs.declared.declaration.Observed.{Observed}
 use Rattle.jl_tree.specs.Files.{File}
 use Rattle.jl_config.specs.declared.fault.ResolveFault.{ResolveFault}
 use Rattle.jl_config.specs.declared.fault.ResolveFault.TheVariants as resolves
-use Rattle.jl_config.specs.Graphs.{Graph}
+use Rattle.jl_config.specs.Configurations.{Configuration}
 use Rattle.jl_config.specs.Laws.{ResolvesOnce}
 use Rattle.jl_finder.specs.Observed.{observed}
 use Rattle.jl_finder.specs.declared.fault.FindFault.{FindFault}
@@ -16,7 +16,7 @@ use Rattle.jl_launch.specs.Words.{words_of}
 use Rattle.jl_launch.specs.Launched.{IsPrinted, IsResolved, IsAnswer, boot}
 use Rattle.jl_launch.specs.Unique.{LaunchesOnce}
 
-same_printed : (a : Result Graph ResolveFault) (e f : LaunchEnd) (ls ms : List (List ℕ)) → IsPrinted a e ls → IsPrinted a f ms → (e ≡ f) × (ls ≡ ms)
+same_printed : (a : Result Configuration ResolveFault) (e f : LaunchEnd) (ls ms : List (List ℕ)) → IsPrinted a e ls → IsPrinted a f ms → (e ≡ f) × (ls ≡ ms)
 same_printed (Ok g) e f ls ms p q = (p.0 ∙ sym q.0, p.1 ∙ sym q.1)
 same_printed (Err resolves.NoParents) e f ls ms p q = (p.0 ∙ sym q.0, p.1 ∙ sym q.1)
 same_printed (Err (resolves.NotFound name by)) e f ls ms p q = (p.0 ∙ sym q.0, p.1 ∙ sym q.1)
@@ -28,7 +28,7 @@ same_printed (Err (resolves.OwnPackage r h n)) e f ls ms p q = (p.0 ∙ sym q.0,
 same_printed (Err (resolves.ServicePackage m s)) e f ls ms p q = (p.0 ∙ sym q.0, p.1 ∙ sym q.1)
 same_printed (Err resolves.NoMemory) e f ls ms p q = absurd p
 
-printed_told : (a : Result Graph ResolveFault) (e : LaunchEnd) (ls : List (List ℕ)) → IsPrinted a e ls → a ≢ Err resolves.NoMemory
+printed_told : (a : Result Configuration ResolveFault) (e : LaunchEnd) (ls : List (List ℕ)) → IsPrinted a e ls → a ≢ Err resolves.NoMemory
 printed_told a e ls p h = subst (λ b. IsPrinted b e ls) h p
 
 module _ (resolves_once : ResolvesOnce) where

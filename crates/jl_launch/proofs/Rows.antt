@@ -151,8 +151,8 @@ root_not_found = refl
 too_many : refusal_line (Resolve resolves.TooMany) ≡ line (codes "refused: Resolve TooMany")
 too_many = refl
 
-circle : refusal_line (Resolve (resolves.Cycle (codes "a"))) ≡ line (codes "refused: Resolve Cycle a")
-circle = refl
+a_cycle : refusal_line (Resolve (resolves.Cycle (codes "a"))) ≡ line (codes "refused: Resolve Cycle a")
+a_cycle = refl
 
 same_name : refusal_line (Resolve (resolves.SameName (codes "r") (codes "x"))) ≡ line (codes "refused: Resolve SameName r x")
 same_name = refl

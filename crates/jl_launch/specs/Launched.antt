@@ -6,7 +6,7 @@ use Rattle.jl_prim.specs.declared.declaration.Observed.{Observed}
 use Rattle.jl_tree.specs.Files.{File}
 use Rattle.jl_config.specs.declared.fault.ResolveFault.{ResolveFault}
 use Rattle.jl_config.specs.declared.fault.ResolveFault.TheVariants as resolves
-use Rattle.jl_config.specs.Graphs.{Graph}
+use Rattle.jl_config.specs.Configurations.{Configuration}
 use Rattle.jl_config.specs.Located.{Asked as ToResolve}
 use Rattle.jl_config.specs.Resolves.{asked, Resolves}
 use Rattle.jl_words.specs.declared.fault.WordFault.{WordFault}
@@ -32,7 +32,7 @@ abbrev pub IsRefusedWords : WordFault → LaunchEnd → List (List ℕ) → Type
 IsRefusedWords f end lines = (end ≡ Words f) × (lines ≡ words_line f ∷ [])
 
 -- what a resolution is printed as
-abbrev pub IsPrinted : Result Graph ResolveFault → LaunchEnd → List (List ℕ) → Type 0
+abbrev pub IsPrinted : Result Configuration ResolveFault → LaunchEnd → List (List ℕ) → Type 0
 IsPrinted (Ok g) end lines = (end ≡ Done) × (lines ≡ graph_lines g)
 IsPrinted (Err resolves.NoMemory) end lines = ⊥
 IsPrinted (Err f) end lines = IsRefused (Resolve f) end lines
@@ -44,7 +44,7 @@ boot found roots = asked [] (built_in_base ∷ []) (record { 0 = 0 } ∷ []) fou
 -- what comes of what was found
 abbrev pub IsResolved : List (List ℕ) → Result (List Observed) FindFault → LaunchEnd → List (List ℕ) → Type 0
 IsResolved roots (Err f) end lines = IsRefused (Find f) end lines
-IsResolved roots (Ok found) end lines = (answer : Result Graph ResolveFault) × Resolves (boot found roots) answer × IsPrinted answer end lines
+IsResolved roots (Ok found) end lines = (answer : Result Configuration ResolveFault) × Resolves (boot found roots) answer × IsPrinted answer end lines
 
 -- what is launched by words that ask, or are refused
 abbrev pub IsAnswer : List File → Result Asked WordFault → LaunchEnd → List (List ℕ) → Type 0

@@ -8,7 +8,7 @@ use Rattle.jl_modinfo.specs.declared.fault.InfoFault.TheVariants as infos
 use Rattle.jl_config.specs.declared.configuration.Read.{Read}
 use Rattle.jl_config.specs.declared.fault.ResolveFault.{ResolveFault}
 use Rattle.jl_config.specs.declared.fault.ResolveFault.TheVariants as resolves
-use Rattle.jl_config.specs.Graphs.{Graph}
+use Rattle.jl_config.specs.Configurations.{Configuration}
 use Rattle.jl_finder.specs.declared.fault.FindFault.{FindFault}
 use Rattle.jl_finder.specs.declared.fault.FindFault.TheVariants as finds
 use Rattle.jl_words.specs.declared.fault.WordFault.{WordFault}
@@ -104,5 +104,5 @@ abbrev pub module_lines : List Read → Observed → List (List ℕ)
 module_lines reads o = module_line o ∷ map read_line (other_reads reads o)
 
 -- each module in order, and under it what it reads
-abbrev pub graph_lines : Graph → List (List ℕ)
+abbrev pub graph_lines : Configuration → List (List ℕ)
 graph_lines g = flat_map (module_lines g.reads) g.modules

@@ -1,6 +1,5 @@
 -- The definitions on worked rows.
-use Rattle.std.specs.Prelude.{◌≡◌, [], ◌∷◌, true, false, None, Some, Ok, Err, codes, refl}
-use Rattle.std.proofs.Common.{arith}
+use Rattle.std.proofs.Common.{◌≡◌, [], ◌∷◌, true, false, None, Some, Ok, Err, codes, refl, lit<, lit≤, arith}
 use Rattle.jl_names.specs.declared.fault.TextFault.TheVariants.{BadText}
 use Rattle.jl_names.specs.declared.types.BaseType.TheVariants.{Prim, Class}
 use Rattle.jl_names.specs.declared.types.FieldType.{FieldType}
@@ -97,3 +96,13 @@ an_int_field = record { few = omega arith; base = refl; stands = record { there 
 
 no_void_field : IsDescriptor (codes "V") (Field (record { dims = 0; base = Prim 86 })) → ⊥
 no_void_field d = let b : false ≡ true = d.base in cc
+-- the spelling of (I)V
+spelled_method : IsDescriptor (codes "(I)V") (Method (int ∷ []) None)
+spelled_method = record {
+  close = 2;
+  opens = record { there = refl; ends = refl; within = lit≤ tt };
+  types = (2, record { few = lit< tt; base = refl; stands = record { there = refl; ends = refl; within = lit≤ tt } }, refl);
+  few = lit< tt;
+  closes = record { there = refl; ends = refl; within = lit≤ tt };
+  returns = record { there = refl; ends = refl; within = lit≤ tt };
+}

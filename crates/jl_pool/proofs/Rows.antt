@@ -1,9 +1,10 @@
 -- Worked rows of the definitions.
-use Rattle.std.proofs.Common.{◌≡◌, [], ◌∷◌, Ok, Err, refl}
+use Rattle.std.proofs.Common.{◌≡◌, [], ◌∷◌, Ok, Err, true, false, refl}
 use Rattle.jl_reading.specs.Reading.{each_at}
 use Rattle.jl_names.specs.Text.{unit_at, units_from, units_read}
 use Rattle.jl_pool.specs.declared.entry.Entry.TheVariants as entries
 use Rattle.jl_pool.specs.declared.fault.PoolFault.TheVariants as faults
+use Rattle.jl_pool.specs.Pool.{refers_rightly}
 use Rattle.jl_pool.specs.Reading.{text_at, bits_at, indices_at, pair_at, eight_at, wide_at, content_at, entry_at, pool_at}
 use Rattle.jl_pool.specs.Spelling.{entry_bytes}
 
@@ -33,3 +34,14 @@ a_short_pair = refl
 
 a_spelling : entry_bytes (entries.NameAndType 1 258) ≡ 12 ∷ 0 ∷ 1 ∷ 1 ∷ 2 ∷ []
 a_spelling = refl
+
+-- ---- what entries refer to
+
+right_class : refers_rightly (entries.Unused ∷ entries.Utf8 (97 ∷ []) ∷ []) (entries.Class 1) ≡ true
+right_class = refl
+
+class_of_nothing : refers_rightly (entries.Unused ∷ entries.Utf8 (97 ∷ []) ∷ []) (entries.Class 2) ≡ false
+class_of_nothing = refl
+
+field_of_a_text : refers_rightly (entries.Unused ∷ entries.Utf8 (97 ∷ []) ∷ entries.NameAndType 1 1 ∷ []) (entries.Field 1 2) ≡ false
+field_of_a_text = refl

@@ -1,5 +1,6 @@
 pub mod Appended
 pub mod Each
+mod Rows
 pub mod Standing
 pub mod Stands
 pub mod Steps

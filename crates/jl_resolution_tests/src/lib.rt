@@ -6,8 +6,8 @@ mod config;
 #[cfg(test)]
 mod finder;
 #[cfg(test)]
-mod words;
-#[cfg(test)]
 mod launch;
 #[cfg(test)]
 mod tree;
+#[cfg(test)]
+mod words;

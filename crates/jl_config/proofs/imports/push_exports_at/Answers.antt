@@ -10,15 +10,15 @@ use Rattle.jl_config.proofs.imports.push_exports_at.Goals as goal
 
 pub returns-then-eq : goal.returns-then-eq
 returns-then-eq c =
-    let at : slice_get c.args.sights.now.sites c.args.place ≡ Some c.index-sites-place.result = item_here c.args.sights.now.sites c.sites.result.now c.args.place c.index-sites-place.result c.sites.ensures c.requires.place c.index-sites-place.is in
-    adds_none _ (IsExportedAt c.args.sights.now c.args.reader c.args.place) (own_exports_nothing c.args.sights.now c.args.reader c.args.place c.index-sites-place.result at
+    let at : slice_get c.args.scene.now.sites c.args.place ≡ Some c.index-sites-place.result = item_here c.args.scene.now.sites c.sites.result.now c.args.place c.index-sites-place.result c.sites.ensures c.requires.place c.index-sites-place.is in
+    adds_none _ (IsExportedAt c.args.scene.now c.args.reader c.args.place) (own_exports_nothing c.args.scene.now c.args.reader c.args.place c.index-sites-place.result at
     (text_is (site_name c.index-sites-place.result) c.name_at-name.result.now (sym c.eq.ensures ∙ c.if-eq.true) ∙ c.name_at-name.ensures))
 
 pub returns : goal.returns
 returns c =
-    let at : slice_get c.args.sights.now.sites c.args.place ≡ Some c.index-sites-place.result = item_here c.args.sights.now.sites c.sites.result.now c.args.place c.index-sites-place.result c.sites.ensures c.requires.place c.index-sites-place.is in
-    let other : site_name c.index-sites-place.result ≢ name_at c.args.sights.now c.args.reader = λ e.
+    let at : slice_get c.args.scene.now.sites c.args.place ≡ Some c.index-sites-place.result = item_here c.args.scene.now.sites c.sites.result.now c.args.place c.index-sites-place.result c.sites.ensures c.requires.place c.index-sites-place.is in
+    let other : site_name c.index-sites-place.result ≢ name_at c.args.scene.now c.args.reader = λ e.
     text_differs (site_name c.index-sites-place.result) c.name_at-name.result.now (sym c.eq.ensures ∙ c.if-eq.false) (e ∙ sym c.name_at-name.ensures) in
-    adds_same _ _ (IsExportedBy (name_at c.args.sights.now c.args.reader) c.index-sites-place.result) (IsExportedAt c.args.sights.now c.args.reader c.args.place)
+    adds_same _ _ (IsExportedBy (name_at c.args.scene.now c.args.reader) c.index-sites-place.result) (IsExportedAt c.args.scene.now c.args.reader c.args.place)
     (rw c.name_at-name.ensures at c.in_ok-push_exports.ensures)
-    (exported_here c.args.sights.now c.args.reader c.args.place c.index-sites-place.result at other) (here_exported c.args.sights.now c.args.reader c.args.place c.index-sites-place.result at)
+    (exported_here c.args.scene.now c.args.reader c.args.place c.index-sites-place.result at other) (here_exported c.args.scene.now c.args.reader c.args.place c.index-sites-place.result at)

@@ -4,4 +4,4 @@ use Rattle.jl_config.specs.Tables.{listed}
 use Rattle.jl_config.proofs.member_rows.rows_by.Given as goal
 
 abbrev pub invariant-loop-site : goal.invariant-loop-site
-invariant-loop-site l = l.rows.items ≡ map (member_row l.sights (listed l.table)) (take l.site-index l.sights.sites)
+invariant-loop-site l = l.rows.items ≡ map (member_row l.scene (listed l.table)) (take l.site-index l.scene.sites)

@@ -8,20 +8,20 @@ use Rattle.jl_config.proofs.members.marks_of.Goals as goal
 
 pub closure-requires-clause-graph : goal.closure-requires-clause-graph
 closure-requires-clause-graph c =
-    let w = c.args.sights.now in
+    let w = c.args.scene.now in
     let e : c.as_slice.result.now ≡ member_rows w = c.as_slice.ensures.value ∙ c.in_ok-rows.ensures in
     subst (λ (n : List (List ℕ)). All (λ row. All (λ p. p < length n) row) n) (sym e) (rows_within w)
 
 pub closure-requires-clause-within : goal.closure-requires-clause-within
 closure-requires-clause-within c =
-    let w = c.args.sights.now in
+    let w = c.args.scene.now in
     let e : c.as_slice.result.now ≡ member_rows w = c.as_slice.ensures.value ∙ c.in_ok-rows.ensures in
     let f : c.as_slice-2.result.now ≡ member_starts w = c.as_slice-2.ensures.value ∙ c.in_ok-starts.ensures in
     subst (λ (n : List (List ℕ)). All (λ p. p < length n) c.as_slice-2.result.now) (sym e) (subst (λ (l : List ℕ). All (λ p. p < length (member_rows w)) l) (sym f) (starts_within w))
 
 pub returns : goal.returns
 returns c =
-    let w = c.args.sights.now in
+    let w = c.args.scene.now in
     let e : c.as_slice.result.now ≡ member_rows w = c.as_slice.ensures.value ∙ c.in_ok-rows.ensures in
     let f : c.as_slice-2.result.now ≡ member_starts w = c.as_slice-2.ensures.value ∙ c.in_ok-starts.ensures in
     let given : AreMarksOf c.as_slice.result.now c.as_slice-2.result.now c.in_ok-reached.reached.items = record { one_each = c.in_ok-reached.ensures.one_each; only = c.in_ok-reached.ensures.only; all = c.in_ok-reached.ensures.all } in

@@ -3,4 +3,4 @@ use Rattle.jl_config.specs.MissingNames.{lack_of, least_from, root_missing, miss
 use Rattle.jl_config.proofs.missing.least_missing.Given as goal
 
 abbrev pub invariant-loop-place : goal.invariant-loop-place
-invariant-loop-place l = option_map lack_of l.least ≡ least_from None (filter_map (root_missing l.sights) l.sights.roots ++ flat_map (missing_at l.sights) (take l.place-index l.places))
+invariant-loop-place l = option_map lack_of l.least ≡ least_from None (filter_map (root_missing l.scene) l.scene.roots ++ flat_map (missing_at l.scene) (take l.place-index l.places))

@@ -6,7 +6,7 @@ use Rattle.jl_config.proofs.readings.readings_of.Goals as goal
 
 pub loop-place-preserved : goal.loop-place-preserved
 loop-place-preserved c =
-    let w = c.args.sights.now in
+    let w = c.args.scene.now in
     let places = c.args.members.now.places.items in
     let items = c.as_slice-place-items.result.now in
     let lt : c.loop-place.place-index < length places = subst (λ l. c.loop-place.place-index < length l) c.as_slice-place-items.ensures.value c.loop-place-test.true in
@@ -21,5 +21,5 @@ loop-place-preserved c =
 
 pub returns : goal.returns
 returns c =
-    all_read c.args.sights.now c.args.members.now.places.items c.loop-place.place-index c.loop-place.readings.items
+    all_read c.args.scene.now c.args.members.now.places.items c.loop-place.place-index c.loop-place.readings.items
     (subst (λ l. length l ≤ c.loop-place.place-index) c.as_slice-place-items.ensures.value c.loop-place-test.false) c.requires.places c.loop-place.invariant

@@ -3,4 +3,4 @@ use Rattle.jl_config.specs.ReadRows.{passed_places}
 use Rattle.jl_config.proofs.readings.rows_of.Given as goal
 
 abbrev pub invariant-loop-site : goal.invariant-loop-site
-invariant-loop-site l = l.rows.items ≡ map (passed_places l.sights l.marks) (take l.site-index l.sites)
+invariant-loop-site l = l.rows.items ≡ map (passed_places l.scene l.marks) (take l.site-index l.sites)

@@ -8,7 +8,7 @@ pub push_reads-requires : goal.push_reads-requires
 push_reads-requires c = c.requires.readings.only c.reading-item.result (item_among c.args.readings.now c.loop-reading.reading-index c.reading-item.result c.loop-reading-test.true c.reading-item.is)
 
 pub loop-reading-preserved : goal.loop-reading-preserved
-loop-reading-preserved c = flat_map_step (reads_in c.args.sights.now) c.args.readings.now c.loop-reading.reading-index c.reading-item.result c.loop-reading.reads.items _ c.loop-reading-test.true c.reading-item.is c.loop-reading.invariant c.in_ok-push_reads.ensures
+loop-reading-preserved c = flat_map_step (reads_in c.args.scene.now) c.args.readings.now c.loop-reading.reading-index c.reading-item.result c.loop-reading.reads.items _ c.loop-reading-test.true c.reading-item.is c.loop-reading.invariant c.in_ok-push_reads.ensures
 
 pub returns : goal.returns
-returns c = all_reads c.args.sights.now c.requires.apart c.args.readings.now c.loop-reading.reading-index c.loop-reading.reads.items c.loop-reading-test.false c.requires.readings c.loop-reading.invariant
+returns c = all_reads c.args.scene.now c.requires.apart c.args.readings.now c.loop-reading.reading-index c.loop-reading.reads.items c.loop-reading-test.false c.requires.readings c.loop-reading.invariant

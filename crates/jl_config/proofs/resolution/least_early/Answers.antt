@@ -9,18 +9,18 @@ use Rattle.jl_config.proofs.Decided.{settled, goes_on, settles, too_many_settled
 use Rattle.jl_config.proofs.resolution.least_early.Goals as goal
 
 pub returns-in-Some : goal.returns-in-Some
-returns-in-Some c = λ q same long before. settled MissingFault 1 missing_kind c.args.sights.now _ c.in_ok-fault.ensures c.in-Some.fault c.in-Some.is q same before
+returns-in-Some c = λ q same long before. settled MissingFault 1 missing_kind c.args.scene.now _ c.in_ok-fault.ensures c.in-Some.fault c.in-Some.is q same before
 
 pub returns-then-are_too_many : goal.returns-then-are_too_many
 returns-then-are_too_many c = λ q same long before.
     let seen = c.as_slice.ensures.value in
-    too_many_settled c.args.sights.now c.args.members.now.places.items c.args.known c.requires.places
+    too_many_settled c.args.scene.now c.args.members.now.places.items c.args.known c.requires.places
     (subst (λ (l : List ℕ). (4096 < length l) ⊎ (4096 ≤ c.args.known)) seen (c.are_too_many.ensures.yes c.if-are_too_many.true)) q same long
-    (goes_on MissingFault 1 missing_kind c.args.sights.now _ c.in_ok-fault.ensures c.in_default.is q same before)
+    (goes_on MissingFault 1 missing_kind c.args.scene.now _ c.in_ok-fault.ensures c.in_default.is q same before)
 
 pub returns : goal.returns
 returns c =
-    let w = c.args.sights.now in
+    let w = c.args.scene.now in
     let ps = c.args.members.now.places.items in
     let seen = c.as_slice.ensures.value in
     IfOk-weaker c.least_cycle.result (λ found. IsLeastSome fault_cmp (CycleFault w) found) (λ found. (q : Asked) → w ≡ scene_of q → length q.known ≡ c.args.known → StartsAt q 1 → Settles q 4 found)

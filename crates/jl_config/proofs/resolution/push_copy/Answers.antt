@@ -8,5 +8,5 @@ use Rattle.jl_config.proofs.resolution.push_copy.Goals as goal
 
 pub returns-in_default : goal.returns-in_default
 returns-in_default c =
-    let past : slice_get c.args.sights.now.sites c.args.place ≡ None = ap (λ (l : List Site). slice_get l c.args.place) (sym c.sites.ensures) ∙ slice_get_past c.sites.result.now c.args.place c.in_default.ensures.lookup.3 in
+    let past : slice_get c.args.scene.now.sites c.args.place ≡ None = ap (λ (l : List Site). slice_get l c.args.place) (sym c.sites.ensures) ∙ slice_get_past c.sites.result.now c.args.place c.in_default.ensures.lookup.3 in
     sym (append-nil c.args.copies.now.items) ∙ ap (λ (o : Option Site). c.args.copies.now.items ++ map (λ (s : Site). s.observed) (option_to_list o)) (sym past)

@@ -4,4 +4,4 @@ use Rattle.jl_config.specs.Imported.{IsUnseenIn}
 use Rattle.jl_config.proofs.services.least_service.Given as goal
 
 abbrev pub invariant-loop-imported : goal.invariant-loop-imported
-invariant-loop-imported l = Adds [] l.unseen.items (Among (IsUnseenIn l.sights) (take l.imported-index l.imports))
+invariant-loop-imported l = Adds [] l.unseen.items (Among (IsUnseenIn l.scene) (take l.imported-index l.imports))

@@ -9,7 +9,7 @@ use Rattle.jl_config.proofs.services.push_unseen_in.Goals as goal
 
 pub returns : goal.returns
 returns c =
-    let w = c.args.sights.now in
+    let w = c.args.scene.now in
     let m = c.args.imports.now in
     let s = c.index-sites-imports.result in
     let at : slice_get w.sites m.reader ≡ Some s = item_here w.sites c.sites.result.now m.reader s c.sites.ensures (import_within w m c.requires) c.index-sites-imports.is in

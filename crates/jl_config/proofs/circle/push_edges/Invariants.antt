@@ -1,6 +1,0 @@
-use Rattle.std.proofs.Common.{◌≡◌, ◌++◌, take, filter_map}
-use Rattle.jl_config.specs.Rounds.{edge_place}
-use Rattle.jl_config.proofs.circle.push_edges.Given as goal
-
-abbrev pub invariant-loop-entry : goal.invariant-loop-entry
-invariant-loop-entry l = l.row.items ≡ l.fn.row.items ++ filter_map (edge_place l.sights l.marks) (take l.entry-index l.entries)

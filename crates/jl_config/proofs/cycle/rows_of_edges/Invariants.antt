@@ -1,0 +1,6 @@
+use Rattle.std.proofs.Common.{◌≡◌, take, map}
+use Rattle.jl_config.specs.Cycles.{edge_row}
+use Rattle.jl_config.proofs.cycle.rows_of_edges.Given as goal
+
+abbrev pub invariant-loop-site : goal.invariant-loop-site
+invariant-loop-site l = l.rows.items ≡ map (edge_row l.scene l.marks) (take l.site-index l.scene.sites)

@@ -1,0 +1,7 @@
+use Rattle.std.proofs.Common.{◌≡◌, drop}
+use Rattle.jl_config.specs.Lineages.{is_read_in}
+use Rattle.jl_config.specs.Tables.{first_of_places}
+use Rattle.jl_config.proofs.scene.first_read.Given as goal
+
+abbrev pub invariant-loop-place : goal.invariant-loop-place
+invariant-loop-place l = first_of_places (is_read_in l.config l.name) l.reads (drop l.place-index l.places) ≡ first_of_places (is_read_in l.config l.name) l.reads l.places

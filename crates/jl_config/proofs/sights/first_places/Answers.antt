@@ -1,9 +1,0 @@
-use Rattle.std.proofs.Common.{nat_eq}
-use Rattle.std.specs.Cmp.Lexicographic.{pointwise}
-use Rattle.indexmap.specs.IndexMap.{get}
-use Rattle.jl_config.proofs.Sighted.{first_of_more}
-use Rattle.jl_config.proofs.sights.first_places.Goals as goal
-
-pub loop-at-preserved : goal.loop-at-preserved
-loop-at-preserved c = λ name.
-    first_of_more c.args.sites.now c.loop-at.at c.index-sites-at.result name (get (pointwise nat_eq) c.loop-at.places name) _ c.loop-at-test.true c.index-sites-at.is (c.loop-at.invariant name) (c.in_ok-note_first.ensures name)

@@ -1,0 +1,33 @@
+-- Places that lead back to themselves: the words of the code that looks for cycles. No public clause cites these.
+use Rattle.std.specs.Prelude.{◌≡◌, ℕ, List, [], ◌∷◌, map, Option, None, Some, Bool, false, slice_index_or, if◌then◌else◌, ◌⊎◌, ⊤}
+use Rattle.std.specs.List.{filter_map}
+use Rattle.jl_prim.specs.declared.declaration.Requires.{Requires}
+use Rattle.jl_closure.specs.Reached.{IsReached}
+use Rattle.jl_config.specs.declared.site.Site.{Site}
+use Rattle.jl_config.specs.Located.{Scene}
+use Rattle.jl_config.specs.Places.{place_named}
+
+abbrev pub kept_marked : List Bool → Option ℕ → Option ℕ
+kept_marked marks None = None
+kept_marked marks (Some p) = if slice_index_or marks p false then Some p else None
+
+-- the place of the member that an entry means
+abbrev pub edge_place : Scene → List Bool → Requires → Option ℕ
+edge_place w marks r = kept_marked marks (place_named r.name w.sites)
+
+abbrev pub edge_row : Scene → List Bool → Site → List ℕ
+edge_row w marks s = filter_map (edge_place w marks) s.observed.declaration.required
+
+-- for each place those of the members that its entries mean
+abbrev pub edge_rows : Scene → List Bool → List (List ℕ)
+edge_rows w marks = map (edge_row w marks) w.sites
+
+-- the row of a place leads back to it
+abbrev pub LeadsBack : List (List ℕ) → ℕ → Type 0
+LeadsBack rows p = IsReached rows (slice_index_or rows p []) p
+
+-- the first of a list that leads back to itself
+abbrev pub IsFirstOnCycle : List (List ℕ) → List ℕ → Option ℕ → Type 0
+IsFirstOnCycle rows [] None = ⊤
+IsFirstOnCycle rows [] (Some q) = ⊥
+IsFirstOnCycle rows (p ∷ ps) found = (LeadsBack rows p × (found ≡ Some p)) ⊎ ((LeadsBack rows p → ⊥) × IsFirstOnCycle rows ps found)
