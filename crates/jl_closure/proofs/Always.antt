@@ -1,6 +1,6 @@
 -- There are always marks of exactly the places that are reached.
-use Rattle.std.proofs.Common.{◌≡◌, ℕ, zero, suc, ◌+◌, ◌≤◌, ◌<◌, Bool, false, List, [], ◌∷◌, ◌++◌, length, get_or, replicate, All, refl, sym, ap, subst, ◌∙◌, arith}
-use Rattle.jl_closure.specs.Reached.{IsReached, AreMarksOf}
+use Rattle.std.proofs.Common.{◌≡◌, ℕ, zero, suc, ◌+◌, ◌≤◌, ◌<◌, Bool, false, List, [], ◌∷◌, ◌++◌, length, get_or, replicate, All, refl, ap, arith}
+use Rattle.jl_closure.specs.Reached.{AreMarksOf}
 use Rattle.jl_closure.specs.Work.{State, with_places}
 use Rattle.jl_closure.proofs.Marking.{unmarked}
 use Rattle.jl_closure.proofs.Closing.{IsClosing, AreWithin, closing_starts, closing_goes_on, row_marks, work_falls, closed_only, closed_all}

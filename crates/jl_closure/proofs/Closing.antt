@@ -1,11 +1,11 @@
 -- The least set that holds the starts and is closed, as marks and work close in on it.
-use Rattle.std.proofs.Common.{◌≡◌, ℕ, zero, suc, ◌+◌, ◌<◌, ◌⊎◌, Bool, true, false, List, [], ◌∷◌, ◌++◌, length, get_or, replicate, All, Some, refl, sym, ap, subst, ◌∙◌, inl, inr, ⊎_elim, arith, length-append}
+use Rattle.std.proofs.Common.{◌≡◌, ℕ, zero, suc, ◌+◌, ◌<◌, ◌⊎◌, Bool, true, false, List, [], ◌∷◌, ◌++◌, length, get_or, replicate, All, Some, sym, ap, subst, ◌∙◌, inl, inr, ⊎_elim, arith, length-append}
 use Rattle.std.proofs.lemmas.List.{length-replicate}
-use Rattle.std.proofs.lemmas.List.Elements.{Contains-append_left, Contains-append_cases, Contains-push, Contains-push_cases, All-get_or}
+use Rattle.std.proofs.lemmas.List.Elements.{Contains-append_left, Contains-push, Contains-push_cases, All-get_or}
 use Rattle.std.proofs.lemmas.Option.{get_or_from_slice_get, slice_get-get_or}
 use Rattle.std.specs.Prelude.{Contains, slice_get}
 use Rattle.jl_closure.specs.Reached.{Follows, Chain, IsReached}
-use Rattle.jl_closure.specs.Work.{State, with_place, with_places}
+use Rattle.jl_closure.specs.Work.{State, with_places}
 use Rattle.jl_closure.proofs.Marking.{Marked, Marked-within, unmarked, Marks, marks_all}
 
 -- Each mark is reached, the starts are marked, and what follows a marked place is marked, unless the place is work.

@@ -30,7 +30,7 @@ twice d = d.0 (0, omega arith, refl)
 -- ---- matches
 
 rows_match : Match (λ (a b : ℕ). a ≡ b + 1) (2 ∷ 3 ∷ []) (1 ∷ 2 ∷ [])
-rows_match = (refl, refl, tt)
+rows_match = (refl, (refl, tt))
 
 one_too_many : Match (λ (a b : ℕ). a ≡ b + 1) (2 ∷ 3 ∷ []) (1 ∷ []) → ⊥
 one_too_many m = m.1
@@ -44,7 +44,7 @@ absent_first : optional_cmp None (Some (codes "a")) ≡ Less
 absent_first = refl
 
 they_rise : RisesBy name_cmp (codes "a" ∷ codes "ab" ∷ codes "b" ∷ [])
-they_rise = ((refl, refl, tt), (refl, tt), tt, tt)
+they_rise = ((refl, (refl, tt)), ((refl, tt), (tt, tt)))
 
 least_of_one : IsLeast name_cmp (λ (n : List ℕ). n ≡ codes "a") (codes "a")
 least_of_one = record { has = refl; least = λ y e l. not_less (sym (ap (λ n. name_cmp n (codes "a")) e) ∙ l) }
@@ -68,7 +68,7 @@ raised_by_one = refl
 
 -- ---- answers
 
-told : ℕ → Option ℕ
+abbrev told : ℕ → Option ℕ
 told zero = None
 told (suc n) = Some n
 

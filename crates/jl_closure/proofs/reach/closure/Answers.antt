@@ -1,5 +1,5 @@
-use Rattle.std.proofs.Common.{◌≡◌, ◌++◌, ◌∷◌, [], List, ℕ, length, sym, ap, ◌∙◌, subst, arith, All, ◌<◌}
-use Rattle.jl_closure.specs.Work.{State, with_places}
+use Rattle.std.proofs.Common.{List, ℕ, ap, ◌∙◌, subst}
+use Rattle.jl_closure.specs.Work.{with_places}
 use Rattle.jl_closure.proofs.Closing.{closing_begins, closing_goes_on, taken_within, row_marks, work_falls, closed_only, closed_all, IsClosing}
 use Rattle.jl_closure.proofs.reach.closure.Goals as goal
 
