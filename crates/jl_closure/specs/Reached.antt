@@ -10,6 +10,7 @@ abbrev pub Chain : List (List ℕ) → List ℕ → ℕ → ℕ → Type 0
 Chain next starts zero p = Contains starts p
 Chain next starts (suc n) p = (q : ℕ) × Chain next starts n q × Follows next q p
 
+-- p ends a chain that begins with a start
 abbrev pub IsReached : List (List ℕ) → List ℕ → ℕ → Type 0
 IsReached next starts p = (n : ℕ) × Chain next starts n p
 

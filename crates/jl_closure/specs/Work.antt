@@ -9,6 +9,7 @@ State = List Bool × List ℕ
 abbrev pub with_place : State → ℕ → State
 with_place s p = if slice_index_or s.0 p false then s else (slice_set s.0 p true, s.1 ++ p ∷ [])
 
+-- places are marked one after the other
 abbrev pub with_places : State → List ℕ → State
 with_places s [] = s
 with_places s (p ∷ ps) = with_places (with_place s p) ps

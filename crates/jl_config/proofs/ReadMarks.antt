@@ -12,7 +12,7 @@ use Rattle.jl_config.specs.declared.site.Site.{Site}
 use Rattle.jl_config.specs.Located.{Scene, site_name, is_here, find_read, read_site}
 use Rattle.jl_config.specs.Members.{IsMember, MeansHere, MeansBy, Means, IsPassedOn, ReadsBy, Reads, is_passed_on}
 use Rattle.jl_config.specs.Places.{place_named, place_of_site, read_place, own_place, AreMarks, AreReadBy}
-use Rattle.jl_config.specs.ReadRows.{is_open_site, is_open, open_place, meant_place, required_places, passed_place, passed_places, read_rows, read_starts}
+use Rattle.jl_config.specs.ReadRows.{is_eligible_site, is_eligible, eligible_place, meant_place, required_places, passed_place, passed_places, read_rows, read_starts}
 use Rattle.jl_config.proofs.Lists.{into_filter_map, from_filter_map, into_map, from_map, row_at, same_item, all_of, mark_of}
 use Rattle.jl_config.proofs.MemberFinds.{member_found}
 use Rattle.jl_config.proofs.Finds.{NamedAt, named_shows, named_place, own_shows, own_place_of, named_first}
@@ -43,57 +43,57 @@ own_has w None b e = absurd cc
 own_has w (Some r) b e = let s = own_place_of r.config r.name w.sites b e in (s.0, s.1.first, s.1.at)
 
 -- what a place that is kept says
-open_shows : (w : Scene) (marks : List Bool) (o : Option ℕ) (p : ℕ) → open_place w marks o ≡ Some p → (o ≡ Some p) × (is_open w marks p ≡ true)
-open_shows w marks None p e = absurd cc
-open_shows w marks (Some q) p e = by (is_open w marks q) refl e
+eligible_shows : (w : Scene) (marks : List Bool) (o : Option ℕ) (p : ℕ) → eligible_place w marks o ≡ Some p → (o ≡ Some p) × (is_eligible w marks p ≡ true)
+eligible_shows w marks None p e = absurd cc
+eligible_shows w marks (Some q) p e = by (is_eligible w marks q) refl e
   where
-    by : (b : Bool) → is_open w marks q ≡ b → cond b (Some q) None ≡ Some p → (Some q ≡ Some p) × (is_open w marks p ≡ true)
-    by true f g = let m : q ≡ p = cc in (g, subst (λ k. is_open w marks k ≡ true) m f)
+    by : (b : Bool) → is_eligible w marks q ≡ b → cond b (Some q) None ≡ Some p → (Some q ≡ Some p) × (is_eligible w marks p ≡ true)
+    by true f g = let m : q ≡ p = cc in (g, subst (λ k. is_eligible w marks k ≡ true) m f)
     by false f g = absurd cc
 
-open_member : (w : Scene) (mark : Bool) (b : Site) → is_open_site w mark (Some b) ≡ true → IsTrue (is_here w b) → mark ≡ true
-open_member w mark b e h = let f : (not true || mark) ≡ true = subst (λ t. (not t || mark) ≡ true) h e in f
+eligible_member : (w : Scene) (mark : Bool) (b : Site) → is_eligible_site w mark (Some b) ≡ true → IsTrue (is_here w b) → mark ≡ true
+eligible_member w mark b e h = let f : (not true || mark) ≡ true = subst (λ t. (not t || mark) ≡ true) h e in f
 
 module _ (w : Scene) (marks : List Bool) (right : AreMarks w marks) where
-  here_shows : (name : List ℕ) (p : ℕ) → open_place w marks (place_named name w.sites) ≡ Some p → (b : Site) × First w p b × MeansHere w name b
+  here_shows : (name : List ℕ) (p : ℕ) → eligible_place w marks (place_named name w.sites) ≡ Some p → (b : Site) × First w p b × MeansHere w name b
   here_shows name p e =
-      let o = open_shows w marks (place_named name w.sites) p e in
+      let o = eligible_shows w marks (place_named name w.sites) p e in
       let s = named_shows name w.sites p o.0 in
-      let opened : is_open_site w (get_or marks p false) (Some s.0) ≡ true = subst (λ (x : Option Site). is_open_site w (get_or marks p false) x ≡ true) s.1.at o.1 in (
+      let opened : is_eligible_site w (get_or marks p false) (Some s.0) ≡ true = subst (λ (x : Option Site). is_eligible_site w (get_or marks p false) x ≡ true) s.1.at o.1 in (
         s.0,
         placed_first w name p s.0 o.0 s.1.at,
         record {
           meant = s.1.found;
-          member = λ h. (right.only p s.0 s.1.at (mark_of marks p (open_member w (get_or marks p false) s.0 opened h))).0;
+          member = λ h. (right.only p s.0 s.1.at (mark_of marks p (eligible_member w (get_or marks p false) s.0 opened h))).0;
         },
       )
 
-  is_kept : (b : Site) (p : ℕ) → slice_get w.sites p ≡ Some b → (IsTrue (is_here w b) → slice_get marks p ≡ Some true) → is_open w marks p ≡ true
+  is_kept : (b : Site) (p : ℕ) → slice_get w.sites p ≡ Some b → (IsTrue (is_here w b) → slice_get marks p ≡ Some true) → is_eligible w marks p ≡ true
   is_kept b p at h = rw at (by (is_here w b) refl)
     where
       by : (t : Bool) → is_here w b ≡ t → (not t || get_or marks p false) ≡ true
       by true e = get_or_from_slice_get marks p true false (h e)
       by false e = refl
 
-  here_has : (name : List ℕ) (b : Site) → MeansHere w name b → (p : ℕ) × (open_place w marks (place_named name w.sites) ≡ Some p) × (slice_get w.sites p ≡ Some b)
+  here_has : (name : List ℕ) (b : Site) → MeansHere w name b → (p : ℕ) × (eligible_place w marks (place_named name w.sites) ≡ Some p) × (slice_get w.sites p ≡ Some b)
   here_has name b m =
       let s = named_place name w.sites b m.meant in
       let f : NamedAt name w.sites s.0 b = s.1 in
       let marked : IsTrue (is_here w b) → slice_get marks s.0 ≡ Some true = λ h. right.all s.0 b f.at (m.member h) (ap (λ n. place_named n w.sites) f.named ∙ f.first) in
-      let kept : is_open w marks s.0 ≡ true = is_kept b s.0 f.at marked in
+      let kept : is_eligible w marks s.0 ≡ true = is_kept b s.0 f.at marked in
       (s.0, rw (f.first, kept) refl, f.at)
 
   pub meant_shows : (c : Site) (name : List ℕ) (p : ℕ) → meant_place w marks c name ≡ Some p → (b : Site) × First w p b × Means w c name b
   meant_shows c name p e = by (is_here w c) e
     where
-      by : (t : Bool) → cond t (open_place w marks (place_named name w.sites)) (own_place w c name) ≡ Some p → (b : Site) × First w p b × MeansBy t w c name b
+      by : (t : Bool) → cond t (eligible_place w marks (place_named name w.sites)) (own_place w c name) ≡ Some p → (b : Site) × First w p b × MeansBy t w c name b
       by true f = here_shows name p f
       by false f = meant_shows_own w (find_read c.config (site_name c) name w.reads) p f
 
   pub meant_has : (c : Site) (name : List ℕ) (b : Site) → Means w c name b → (p : ℕ) × (meant_place w marks c name ≡ Some p) × (slice_get w.sites p ≡ Some b)
   meant_has c name b m = by (is_here w c) m
     where
-      by : (t : Bool) → MeansBy t w c name b → (p : ℕ) × (cond t (open_place w marks (place_named name w.sites)) (own_place w c name) ≡ Some p) × (slice_get w.sites p ≡ Some b)
+      by : (t : Bool) → MeansBy t w c name b → (p : ℕ) × (cond t (eligible_place w marks (place_named name w.sites)) (own_place w c name) ≡ Some p) × (slice_get w.sites p ≡ Some b)
       by true n = here_has name b n
       by false n = own_has w (find_read c.config (site_name c) name w.reads) b n
 
@@ -180,8 +180,8 @@ module _ (w : Scene) (marks : List Bool) (right : AreMarks w marks) where
 meant_within : (w : Scene) (marks : List Bool) (c : Site) (name : List ℕ) (p : ℕ) → meant_place w marks c name ≡ Some p → p < length w.sites
 meant_within w marks c name p e = by (is_here w c) e
   where
-    by : (t : Bool) → cond t (open_place w marks (place_named name w.sites)) (own_place w c name) ≡ Some p → p < length w.sites
-    by true f = let o = open_shows w marks (place_named name w.sites) p f in let s = named_shows name w.sites p o.0 in slice_get_within w.sites p s.0 s.1.at
+    by : (t : Bool) → cond t (eligible_place w marks (place_named name w.sites)) (own_place w c name) ≡ Some p → p < length w.sites
+    by true f = let o = eligible_shows w marks (place_named name w.sites) p f in let s = named_shows name w.sites p o.0 in slice_get_within w.sites p s.0 s.1.at
     by false f = let s = meant_shows_own w (find_read c.config (site_name c) name w.reads) p f in slice_get_within w.sites p s.0 s.1.at
 
 each_place : {X : Type 0} (h : X → Option ℕ) (n : ℕ) → ((x : X) (p : ℕ) → h x ≡ Some p → p < n) → (xs : List X) → All (λ p. p < n) (filter_map h xs)

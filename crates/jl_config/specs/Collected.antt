@@ -1,4 +1,4 @@
--- What the searches over readings collect. No public clause cites these.
+-- What the searches over readings collect (`Configuration.resolve`). No public clause cites these.
 use Rattle.std.specs.Prelude.{◌≡◌, ℕ, ◌-◌, ◌<◌, List, length, Contains, ◌⊎◌, slice_index_or}
 use Rattle.jl_logic.specs.Order.{name_cmp, RisesBy}
 use Rattle.jl_config.specs.declared.readings.Reading.{Reading}
@@ -34,9 +34,11 @@ pub record IsSharedAt (w : Scene) (r : Reading) (i : ℕ) (c : SharedName) : Typ
   pub same : read_name w r (i - 1) ≡ read_name w r i
   pub is : c ≡ record { reader = name_at w r.reader; name = read_name w r i }
 
+-- the reading has the name twice
 abbrev pub IsShared : Scene → Reading → SharedName → Type 0
 IsShared w r c = (i : ℕ) × IsSharedAt w r i c
 
+-- the refusal of a name that a reader reads twice
 abbrev pub same_name_fault : SharedName → ResolveFault
 same_name_fault c = SameName c.reader c.name
 

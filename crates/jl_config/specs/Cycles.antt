@@ -1,4 +1,4 @@
--- Places that lead back to themselves: the words of the code that looks for cycles. No public clause cites these.
+-- Places that lead back to themselves (`Configuration.resolve`): the words of the code that looks for cycles. No public clause cites these.
 use Rattle.std.specs.Prelude.{◌≡◌, ℕ, List, [], ◌∷◌, map, Option, None, Some, Bool, false, slice_index_or, if◌then◌else◌, ◌⊎◌, ⊤}
 use Rattle.std.specs.List.{filter_map}
 use Rattle.jl_prim.specs.declared.declaration.Requires.{Requires}
@@ -7,6 +7,7 @@ use Rattle.jl_config.specs.declared.site.Site.{Site}
 use Rattle.jl_config.specs.Located.{Scene}
 use Rattle.jl_config.specs.Places.{place_named}
 
+-- a place that is marked
 abbrev pub kept_marked : List Bool → Option ℕ → Option ℕ
 kept_marked marks None = None
 kept_marked marks (Some p) = if slice_index_or marks p false then Some p else None
@@ -15,6 +16,7 @@ kept_marked marks (Some p) = if slice_index_or marks p false then Some p else No
 abbrev pub edge_place : Scene → List Bool → Requires → Option ℕ
 edge_place w marks r = kept_marked marks (place_named r.name w.sites)
 
+-- the places of the members that the entries of a module mean
 abbrev pub edge_row : Scene → List Bool → Site → List ℕ
 edge_row w marks s = filter_map (edge_place w marks) s.observed.declaration.required
 

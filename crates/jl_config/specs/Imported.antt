@@ -1,4 +1,4 @@
--- What a reader gets from other modules, and what the searches over that collect. No public clause cites these.
+-- What a reader gets from other modules, and what the searches over that collect (`Configuration.resolve`). No public clause cites these.
 use Rattle.std.specs.Prelude.{◌≡◌, ◌≢◌, ℕ, ◌-◌, ◌<◌, List, Some, Contains, ◌⊎◌, slice_get}
 use Rattle.std.specs.Ordering.{ordering_then}
 use Rattle.std.specs.declared.cmp.Ordering.{Ordering}
@@ -33,6 +33,7 @@ IsExportedBy reader s e = Exports s e.«package» reader × (e.exporter ≡ site
 abbrev pub IsExportedAt : Scene → ℕ → ℕ → Exported → Type 0
 IsExportedAt w reader p e = (b : Site) × (slice_get w.sites p ≡ Some b) × (site_name b ≢ name_at w reader) × IsExportedBy (name_at w reader) b e
 
+-- by package, and then by exporter
 abbrev pub exported_cmp : Exported → Exported → Ordering
 exported_cmp d e = ordering_then (name_cmp d.«package» e.«package») (name_cmp d.exporter e.exporter)
 
@@ -45,6 +46,7 @@ pub record IsImportOf (w : Scene) (m : Imports) (a : Site) : Type 0 where
   pub all : (b : Site) (p : List ℕ) → Reads w a b → Exports b p (site_name a) → site_name b ≢ site_name a → Contains m.exported (record { «package» = p; exporter = site_name b })
   pub own : (b : Site) → Reads w a b → site_name b ≡ site_name a → b.config ≡ a.config → b ≡ a
 
+-- what one reader gets, in order
 abbrev pub IsImport : Scene → Imports → Type 0
 IsImport w m = (a : Site) × IsImportOf w m a
 
@@ -60,6 +62,7 @@ abbrev pub IsPackageSharedAt : Scene → Imports → ℕ → SharedPackage → T
 IsPackageSharedAt w m i c = (d : Exported) × (e : Exported) × (0 < i) × (slice_get m.exported (i - 1) ≡ Some d) × (slice_get m.exported i ≡ Some e) × (d.«package» ≡ e.«package»)
     × (c ≡ record { reader = name_at w m.reader; «package» = e.«package»; one = d.exporter; other = e.exporter })
 
+-- two exporters of one package stand side by side
 abbrev pub IsPackageShared : Scene → Imports → SharedPackage → Type 0
 IsPackageShared w m c = (i : ℕ) × IsPackageSharedAt w m i c
 
@@ -67,6 +70,7 @@ IsPackageShared w m c = (i : ℕ) × IsPackageSharedAt w m i c
 abbrev pub IsOwned : Site → Exported → OwnedPackage → Type 0
 IsOwned s e c = Holds s e.«package» × (c ≡ record { reader = site_name s; «package» = e.«package»; other = e.exporter })
 
+-- the reader has a package that it gets
 abbrev pub IsOwnedIn : Scene → Imports → OwnedPackage → Type 0
 IsOwnedIn w m c = (s : Site) × (slice_get w.sites m.reader ≡ Some s) × (e : Exported) × Contains m.exported e × IsOwned s e c
 
@@ -88,20 +92,26 @@ pub record AreOwn (s : Site) (own : List (List ℕ)) : Type 0 where
 abbrev pub IsSeen : Site → List Exported → List ℕ → Type 0
 IsSeen s es p = Holds s p ⊎ (Exports s p (site_name s) ⊎ IsImported es p)
 
+-- a service whose package the module neither has nor gets
 abbrev pub IsUnseen : Site → List Exported → List ℕ → UnseenService → Type 0
 IsUnseen s es service c = (IsSeen s es (package_of service) → ⊥) × (c ≡ record { «module» = site_name s; service = service })
 
+-- likewise a service that is provided
 abbrev pub IsUnseenProvided : Site → List Exported → Provides → UnseenService → Type 0
 IsUnseenProvided s es p c = IsUnseen s es p.service c
 
+-- likewise one of all that the reader uses or provides
 abbrev pub IsUnseenIn : Scene → Imports → UnseenService → Type 0
 IsUnseenIn w m c = (s : Site) × (slice_get w.sites m.reader ≡ Some s) × (Uses s c.service ⊎ IsProvidedBy s c.service) × IsUnseen s m.exported c.service c
 
+-- the refusal of a package with two exporters
 abbrev pub same_package_fault : SharedPackage → ResolveFault
 same_package_fault c = SamePackage c.reader c.«package» c.one c.other
 
+-- the refusal of a package that the reader has and gets
 abbrev pub own_package_fault : OwnedPackage → ResolveFault
 own_package_fault c = OwnPackage c.reader c.«package» c.other
 
+-- the refusal of a service whose package is not seen
 abbrev pub service_fault : UnseenService → ResolveFault
 service_fault c = ServicePackage c.«module» c.service

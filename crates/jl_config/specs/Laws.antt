@@ -1,4 +1,4 @@
--- Laws of resolutions.
+-- Laws of resolutions (`Configuration.resolve`).
 use Rattle.std.specs.Prelude.{◌≡◌, ◌≢◌, ◌↔◌, Result, Err}
 use Rattle.jl_config.specs.declared.fault.ResolveFault.{ResolveFault}
 use Rattle.jl_config.specs.declared.fault.ResolveFault.TheVariants.{NoMemory}

@@ -1,4 +1,4 @@
--- What the ancestors have, as lists: the words of the code that gathers them. No public clause cites these.
+-- What the ancestors have, as lists (`Configuration.resolve`): the words of the code that gathers them. No public clause cites these.
 use Rattle.std.specs.Prelude.{ℕ, List, map, Bool, ◌&&◌}
 use Rattle.std.specs.List.{flat_map}
 use Rattle.jl_prim.specs.declared.numbers.ConfigId.{ConfigId}
@@ -8,25 +8,32 @@ use Rattle.jl_config.specs.Configurations.{Configuration}
 use Rattle.jl_logic.specs.Order.{is_text}
 use Rattle.jl_config.specs.Located.{sites_of, site_name, is_numbered}
 
+-- the reads of a configuration, with its number
 abbrev pub reads_with : ConfigId → List Read → List (ConfigId × Read)
 reads_with config rs = map (λ r. (config, r)) rs
 
+-- the modules of configurations
 abbrev pub all_sites : List Configuration → List Site
 all_sites gs = flat_map (λ (g : Configuration). sites_of g.id g.modules) gs
 
+-- the reads of configurations
 abbrev pub all_reads : List Configuration → List (ConfigId × Read)
 all_reads gs = flat_map (λ (g : Configuration). map (λ r. (g.id, r)) g.reads) gs
 
 -- ---- reads and modules by their names
 
+-- the entry is of this reader
 abbrev pub is_reader : List ℕ → ConfigId × Read → Bool
 is_reader reader r = is_text r.1.reader reader
 
+-- the entry is of this configuration, and of the name that is read
 abbrev pub is_read_in : ConfigId → List ℕ → ConfigId × Read → Bool
 is_read_in config name r = is_numbered r.0 config && is_text r.1.name name
 
+-- the module has this name
 abbrev pub is_named : List ℕ → Site → Bool
 is_named name s = is_text (site_name s) name
 
+-- the module is of this configuration
 abbrev pub is_in : ConfigId → Site → Bool
 is_in config s = is_numbered s.config config

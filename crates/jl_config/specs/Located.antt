@@ -23,6 +23,7 @@ id_of q = record { 0 = length q.known + 1 }
 
 -- ---- ancestors
 
+-- the empty configuration
 abbrev pub empty_configuration : Configuration
 empty_configuration = record { id = record { 0 = 0 }; parents = []; modules = []; reads = [] }
 
@@ -50,6 +51,7 @@ pub record Scene : Type 0 where
   pub roots : List (List ℕ)
   pub binds : Bool
 
+-- modules of a configuration
 abbrev pub sites_of : ConfigId → List Observed → List Site
 sites_of id os = map (λ o. record { config = id; observed = o }) os
 
@@ -65,9 +67,11 @@ scene_of q = record {
 
 -- ---- modules by name
 
+-- the name of a module
 abbrev pub name_of : Observed → List ℕ
 name_of o = o.declaration.name
 
+-- the name of a module in sight
 abbrev pub site_name : Site → List ℕ
 site_name s = name_of s.observed
 
@@ -80,6 +84,7 @@ find_named name (s ∷ ss) = if is_text (site_name s) name then Some s else find
 abbrev pub located : Scene → List ℕ → Option Site
 located w name = find_named name w.sites
 
+-- the same configuration
 abbrev pub is_numbered : ConfigId → ConfigId → Bool
 is_numbered a b = a.0 == b.0
 
@@ -100,6 +105,7 @@ find_read config reader name [] = None
 find_read config reader name (r ∷ rs) =
     if is_numbered r.0 config && (is_text r.1.reader reader && is_text r.1.name name) then Some r.1 else find_read config reader name rs
 
+-- the module that an entry reads
 abbrev pub read_site : List Site → Option Read → Option Site
 read_site ss None = None
 read_site ss (Some r) = find_site r.config r.name ss

@@ -1,4 +1,4 @@
--- The places that the closure of the set begins with, and those that each place brings in. No public clause cites these.
+-- The places that the closure of the set begins with, and those that each place brings in (`Configuration.resolve`). No public clause cites these.
 use Rattle.std.specs.Prelude.{ℕ, ◌+◌, List, [], ◌∷◌, ◌++◌, map, Option, None, Some, Bool, false, ◌&&◌, ◌==◌, slice_get, if◌then◌else◌}
 use Rattle.std.specs.List.{filter_map, flat_map}
 use Rattle.std.specs.Option.{option_map_or}
@@ -12,9 +12,11 @@ use Rattle.jl_config.specs.Located.{Scene, site_name, is_here}
 use Rattle.jl_config.specs.Members.{is_followed}
 use Rattle.jl_config.specs.Places.{place_named, sites_at}
 
+-- a finder observes the module at the place
 abbrev pub here_at : Scene → ℕ → Bool
 here_at w p = option_map_or (is_here w) (slice_get w.sites p) false
 
+-- a place whose module a finder observes
 abbrev pub kept_here : Scene → Option ℕ → Option ℕ
 kept_here w None = None
 kept_here w (Some p) = if here_at w p then Some p else None
@@ -23,11 +25,13 @@ kept_here w (Some p) = if here_at w p then Some p else None
 abbrev pub found_place : Scene → List ℕ → Option ℕ
 found_place w name = kept_here w (place_named name w.sites)
 
+-- the place of what an entry that is followed needs
 abbrev pub needed_place : Scene → Requires → Option ℕ
 needed_place w r = if is_followed r then found_place w r.name else None
 
 -- ---- providers
 
+-- the place is this one
 abbrev pub is_place : ℕ → Option ℕ → Bool
 is_place p None = false
 is_place p (Some q) = q == p
@@ -36,9 +40,11 @@ is_place p (Some q) = q == p
 abbrev pub provided_by : ℕ → List Provides → List Provision
 provided_by p entries = map (λ (e : Provides). record { service = e.service; place = p }) entries
 
+-- what a module that is found provides, at its place
 abbrev pub provisions_of : Scene → ℕ → Site → List Provision
 provisions_of w p s = if is_place p (found_place w (site_name s)) then provided_by p s.observed.declaration.provides else []
 
+-- what the modules from a place on provide
 abbrev pub provisions_from : Scene → ℕ → List Site → List Provision
 provisions_from w p [] = []
 provisions_from w p (s ∷ ss) = provisions_of w p s ++ provisions_from w (p + 1) ss
@@ -47,6 +53,7 @@ provisions_from w p (s ∷ ss) = provisions_of w p s ++ provisions_from w (p + 1
 abbrev pub offers : Scene → List Provision
 offers w = if w.binds then provisions_from w 0 w.sites else []
 
+-- the place of a module that provides the service
 abbrev pub for_service : List ℕ → Provision → Option ℕ
 for_service service v = if is_text v.service service then Some v.place else None
 
@@ -56,6 +63,7 @@ providers vs service = filter_map (for_service service) vs
 
 -- ---- rows and starts
 
+-- the places of what a module needs
 abbrev pub needed_places : Scene → Site → List ℕ
 needed_places w s = if is_here w s then filter_map (needed_place w) s.observed.declaration.required else []
 
@@ -63,6 +71,7 @@ needed_places w s = if is_here w s then filter_map (needed_place w) s.observed.d
 abbrev pub member_row : Scene → (List ℕ → List ℕ) → Site → List ℕ
 member_row w serve s = needed_places w s ++ flat_map serve s.observed.declaration.uses
 
+-- for each place those that its module brings in
 abbrev pub member_rows : Scene → List (List ℕ)
 member_rows w = map (member_row w (providers (offers w))) w.sites
 
@@ -71,6 +80,7 @@ abbrev pub above_from : Scene → ℕ → List Site → List ℕ
 above_from w p [] = []
 above_from w p (s ∷ ss) = if is_here w s then above_from w (p + 1) ss else p ∷ above_from w (p + 1) ss
 
+-- the places with which the set begins
 abbrev pub member_starts : Scene → List ℕ
 member_starts w = filter_map (found_place w) w.roots ++ (if w.binds then above_from w 0 w.sites else [])
 

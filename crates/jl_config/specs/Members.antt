@@ -8,6 +8,7 @@ use Rattle.jl_config.specs.Located.{Scene, site_name, located, is_here, own_mean
 
 -- ---- entries
 
+-- the name of java.base
 abbrev pub is_base : List ℕ → Bool
 is_base name = is_text name (codes "java.base")
 
@@ -23,9 +24,11 @@ is_passed_on r = r.transitive && not (is_base r.name)
 abbrev pub Needs : Site → List ℕ → Type 0
 Needs s name = (r : Requires) × Contains s.observed.declaration.required r × IsTrue (is_followed r) × (r.name ≡ name)
 
+-- the module uses the service
 abbrev pub Uses : Site → List ℕ → Type 0
 Uses s service = Contains s.observed.declaration.uses service
 
+-- the module provides the service
 abbrev pub IsProvidedBy : Site → List ℕ → Type 0
 IsProvidedBy s service = (p : Provides) × Contains s.observed.declaration.provides p × (p.service ≡ service)
 
@@ -71,6 +74,7 @@ abbrev pub IsMemberBy : Bool → Scene → Site → Type 0
 IsMemberBy true w s = IsBound w s
 IsMemberBy false w s = (n : ℕ) × Enumerated w n s
 
+-- a module of the set
 abbrev pub IsMember : Scene → Site → Type 0
 IsMember w s = IsMemberBy w.binds w s
 
@@ -81,6 +85,7 @@ pub record MeansHere (w : Scene) (name : List ℕ) (s : Site) : Type 0 where
   pub meant : located w name ≡ Some s
   pub member : IsTrue (is_here w s) → IsMember w s
 
+-- to a module that is here, or is an ancestor's, a name means this module
 abbrev pub MeansBy : Bool → Scene → Site → List ℕ → Site → Type 0
 MeansBy true w a name b = MeansHere w name b
 MeansBy false w a name b = own_meaning w a name ≡ Some b
@@ -102,5 +107,6 @@ abbrev pub ReadsBy : Scene → ℕ → Site → Site → Type 0
 ReadsBy w zero a b = IsRequired w a b
 ReadsBy w (suc n) a b = (c : Site) × ReadsBy w n a c × IsPassedOn w c b
 
+-- a reads itself, and what ends such a list
 abbrev pub Reads : Scene → Site → Site → Type 0
 Reads w a b = (a ≡ b) ⊎ ((n : ℕ) × ReadsBy w n a b)

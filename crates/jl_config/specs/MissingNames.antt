@@ -1,4 +1,4 @@
--- Names that are not located, and the least of them: the words of the code that looks for one. No public clause cites these.
+-- Names that are not located, and the least of them (`Configuration.resolve`): the words of the code that looks for one. No public clause cites these.
 use Rattle.std.specs.Prelude.{ℕ, List, [], ◌∷◌, ◌++◌, Option, None, Some, ◌||◌, not, slice_get, if◌then◌else◌}
 use Rattle.std.specs.List.{filter_map, flat_map}
 use Rattle.std.specs.Option.{is_some, option_map_or}
@@ -16,9 +16,11 @@ use Rattle.jl_config.specs.Places.{place_named}
 abbrev pub lack_of : Missing → List ℕ × Option (List ℕ)
 lack_of m = (m.name, m.by)
 
+-- by the name, and then by who needs it
 abbrev pub lack_cmp : List ℕ × Option (List ℕ) → List ℕ × Option (List ℕ) → Ordering
 lack_cmp a b = ordering_then (name_cmp a.0 b.0) (optional_cmp a.1 b.1)
 
+-- the lesser of two, where there is one
 abbrev pub lesser : Option (List ℕ × Option (List ℕ)) → Option (List ℕ × Option (List ℕ)) → Option (List ℕ × Option (List ℕ))
 lesser least None = least
 lesser None (Some other) = Some other
@@ -29,9 +31,11 @@ abbrev pub least_from : Option (List ℕ × Option (List ℕ)) → List (List �
 least_from least [] = least
 least_from least (m ∷ ms) = least_from (lesser least (Some m)) ms
 
+-- a root that is not located
 abbrev pub root_missing : Scene → List ℕ → Option (List ℕ × Option (List ℕ))
 root_missing w name = if is_some (place_named name w.sites) then None else Some (name, None)
 
+-- what an entry that is followed needs and is not located
 abbrev pub entry_missing : Scene → List ℕ → Requires → Option (List ℕ × Option (List ℕ))
 entry_missing w by r = if not (is_followed r) || is_some (place_named r.name w.sites) then None else Some (r.name, Some by)
 
@@ -39,6 +43,7 @@ entry_missing w by r = if not (is_followed r) || is_some (place_named r.name w.s
 abbrev pub missing_entries : Scene → List ℕ → List Requires → List (List ℕ × Option (List ℕ))
 missing_entries w by rs = filter_map (entry_missing w by) rs
 
+-- what a module needs and is not located
 abbrev pub missing_of : Scene → Site → List (List ℕ × Option (List ℕ))
 missing_of w s = missing_entries w (site_name s) s.observed.declaration.required
 

@@ -1,4 +1,4 @@
--- Marked places in name order: the words of the code that puts them so. No public clause cites these.
+-- Marked places in name order (`Configuration.resolve`): the words of the code that puts them so. No public clause cites these.
 use Rattle.std.specs.Prelude.{◌≡◌, ℕ, ◌+◌, ◌≤◌, List, [], ◌∷◌, length, Option, None, Some, Result, Ok, Err, Bool, ◌&&◌, if◌then◌else◌}
 use Rattle.std.specs.List.Sorted.{IsPartitionPoint}
 use Rattle.std.specs.declared.cmp.Ordering.TheVariants.{Less, Greater}
@@ -8,6 +8,7 @@ use Rattle.jl_config.specs.declared.site.Site.{Site}
 use Rattle.jl_config.specs.declared.placed.Placed.{Placed}
 use Rattle.jl_config.specs.Located.{site_name}
 
+-- by the names
 abbrev pub placed_cmp : Placed → Placed → Ordering
 placed_cmp a b = name_cmp a.name b.name
 

@@ -1,4 +1,4 @@
--- Modules by their places in sight: the words in which the parts of a resolution speak. No public clause cites these.
+-- Modules by their places in sight (`Configuration.resolve`): the words in which the parts of a resolution speak. No public clause cites these.
 use Rattle.std.specs.Prelude.{◌≡◌, ℕ, ◌+◌, ◌<◌, List, [], ◌∷◌, length, Option, None, Some, Bool, true, ◌&&◌, Contains, All, slice_get, if◌then◌else◌}
 use Rattle.std.specs.List.{filter_map}
 use Rattle.std.specs.Option.{option_map}
@@ -25,6 +25,7 @@ place_of_site config name [] = None
 place_of_site config name (s ∷ ss) =
     if is_numbered s.config config && is_text (site_name s) name then Some 0 else option_map (λ p. p + 1) (place_of_site config name ss)
 
+-- the place of the module that an entry reads
 abbrev pub read_place : List Site → Option Read → Option ℕ
 read_place ss None = None
 read_place ss (Some r) = place_of_site r.config r.name ss
@@ -33,6 +34,7 @@ read_place ss (Some r) = place_of_site r.config r.name ss
 abbrev pub own_place : Scene → Site → List ℕ → Option ℕ
 own_place w s name = read_place w.sites (find_read s.config (site_name s) name w.reads)
 
+-- the modules at places
 abbrev pub sites_at : Scene → List ℕ → List Site
 sites_at w ps = filter_map (slice_get w.sites) ps
 
@@ -63,26 +65,32 @@ pub record AreReadBy (w : Scene) (a : Site) (ps : List ℕ) : Type 0 where
 
 -- ---- refusals of one kind
 
+-- a refusal of a name that is not located
 abbrev pub MissingFault : Scene → ResolveFault → Type 0
 MissingFault w (NotFound name by) = IsMissing w (name, by)
 MissingFault w _ = ⊥
 
+-- a refusal of a cycle
 abbrev pub CycleFault : Scene → ResolveFault → Type 0
 CycleFault w (Cycle least) = IsOnCycle w least
 CycleFault w _ = ⊥
 
+-- a refusal of a name that is read twice
 abbrev pub SameNameFault : Scene → ResolveFault → Type 0
 SameNameFault w (SameName reader name) = IsSameName w (reader, name)
 SameNameFault w _ = ⊥
 
+-- a refusal of a package with two exporters
 abbrev pub SamePackageFault : Scene → ResolveFault → Type 0
 SamePackageFault w (SamePackage reader p one other) = IsSamePackage w (reader, p, one, other)
 SamePackageFault w _ = ⊥
 
+-- a refusal of a package that the reader has and gets
 abbrev pub OwnPackageFault : Scene → ResolveFault → Type 0
 OwnPackageFault w (OwnPackage reader p other) = IsOwnPackage w (reader, p, other)
 OwnPackageFault w _ = ⊥
 
+-- a refusal of a service whose package is not seen
 abbrev pub ServiceFault : Scene → ResolveFault → Type 0
 ServiceFault w (ServicePackage name service) = IsServicePackage w (name, service)
 ServiceFault w _ = ⊥

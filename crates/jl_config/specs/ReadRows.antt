@@ -1,4 +1,4 @@
--- What a name means as a place, and the readings of a set: the words in which reads are found. No public clause cites these.
+-- What a name means as a place, and the readings of a set (`Configuration.resolve`): the words in which reads are found. No public clause cites these.
 use Rattle.std.specs.Prelude.{◌≡◌, ℕ, ◌<◌, List, [], ◌∷◌, ◌++◌, length, map, Option, None, Some, Bool, false, not, ◌||◌, Contains, slice_get, slice_index_or, if◌then◌else◌}
 use Rattle.std.specs.List.{filter_map}
 use Rattle.std.specs.Ordering.{ordering_then, nat_cmp}
@@ -17,25 +17,28 @@ use Rattle.jl_config.specs.Places.{place_named, own_place, AreReadBy}
 -- ---- what a name means
 
 -- a module of an ancestor, or one whose mark is set
-abbrev pub is_open_site : Scene → Bool → Option Site → Bool
-is_open_site w mark None = false
-is_open_site w mark (Some s) = not (is_here w s) || mark
+abbrev pub is_eligible_site : Scene → Bool → Option Site → Bool
+is_eligible_site w mark None = false
+is_eligible_site w mark (Some s) = not (is_here w s) || mark
 
-abbrev pub is_open : Scene → List Bool → ℕ → Bool
-is_open w marks p = is_open_site w (slice_index_or marks p false) (slice_get w.sites p)
+-- likewise the module at a place
+abbrev pub is_eligible : Scene → List Bool → ℕ → Bool
+is_eligible w marks p = is_eligible_site w (slice_index_or marks p false) (slice_get w.sites p)
 
-abbrev pub open_place : Scene → List Bool → Option ℕ → Option ℕ
-open_place w marks None = None
-open_place w marks (Some p) = if is_open w marks p then Some p else None
+-- a place whose module is one of these
+abbrev pub eligible_place : Scene → List Bool → Option ℕ → Option ℕ
+eligible_place w marks None = None
+eligible_place w marks (Some p) = if is_eligible w marks p then Some p else None
 
 -- the place of what a name means to the module c
 abbrev pub meant_place : Scene → List Bool → Site → List ℕ → Option ℕ
-meant_place w marks c name = if is_here w c then open_place w marks (place_named name w.sites) else own_place w c name
+meant_place w marks c name = if is_here w c then eligible_place w marks (place_named name w.sites) else own_place w c name
 
 -- the places of what c requires
 abbrev pub required_places : Scene → List Bool → Site → List ℕ
 required_places w marks c = filter_map (λ (r : Requires). meant_place w marks c r.name) c.observed.declaration.required
 
+-- the place of what an entry passes on
 abbrev pub passed_place : Scene → List Bool → Site → Requires → Option ℕ
 passed_place w marks c r = if is_passed_on r then meant_place w marks c r.name else None
 
@@ -53,10 +56,12 @@ read_starts w marks a place = required_places w marks a ++ place ∷ []
 
 -- ---- the order of what is read
 
+-- the name of a module, where there is one
 abbrev pub option_name : Option Site → List ℕ
 option_name None = []
 option_name (Some s) = site_name s
 
+-- the name of the module at a place
 abbrev pub name_at : Scene → ℕ → List ℕ
 name_at w p = option_name (slice_get w.sites p)
 
@@ -64,9 +69,11 @@ name_at w p = option_name (slice_get w.sites p)
 abbrev pub place_cmp : Scene → ℕ → ℕ → Ordering
 place_cmp w p q = ordering_then (name_cmp (name_at w p) (name_at w q)) (nat_cmp p q)
 
+-- by the names, and then by the places
 abbrev pub placed_cmp : Placed → Placed → Ordering
 placed_cmp x y = ordering_then (name_cmp x.name y.name) (nat_cmp x.place y.place)
 
+-- a place with what orders it
 abbrev pub placed : Scene → ℕ → Placed
 placed w p = record { name = name_at w p; place = p }
 
@@ -76,6 +83,7 @@ pub record AreByName (w : Scene) (xs : List Placed) : Type 0 where
   pub only : (x : Placed) → Contains xs x → (x.place < length w.sites) × (x ≡ placed w x.place)
   pub all : (p : ℕ) → p < length w.sites → Contains xs (placed w p)
 
+-- a place whose mark is set
 abbrev pub marked_place : List Bool → Placed → Option ℕ
 marked_place marks x = if slice_index_or marks x.place false then Some x.place else None
 
@@ -92,6 +100,7 @@ pub record IsReadingOf (w : Scene) (r : Reading) (a : Site) : Type 0 where
   pub member : IsMember w a
   pub reads : IsRead w a r.read
 
+-- by the names of the readers
 abbrev pub reading_cmp : Scene → Reading → Reading → Ordering
 reading_cmp w r s = name_cmp (name_at w r.reader) (name_at w s.reader)
 
@@ -103,6 +112,7 @@ pub record AreReadings (w : Scene) (rs : List Reading) : Type 0 where
 
 -- ---- reads
 
+-- the configuration of a module, where there is one
 abbrev pub option_config : Option Site → ConfigId
 option_config None = record { 0 = 0 }
 option_config (Some s) = s.config
@@ -111,5 +121,6 @@ option_config (Some s) = s.config
 abbrev pub read_between : Scene → ℕ → ℕ → Read
 read_between w p q = record { reader = name_at w p; config = option_config (slice_get w.sites q); name = name_at w q }
 
+-- the reads of a reading
 abbrev pub reads_in : Scene → Reading → List Read
 reads_in w r = map (read_between w r.reader) r.read

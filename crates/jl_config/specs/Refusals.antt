@@ -40,6 +40,7 @@ abbrev pub Leads : Scene → ℕ → Site → Site → Type 0
 Leads w zero a b = HasEdge w a b
 Leads w (suc n) a b = (c : Site) × Leads w n a c × HasEdge w c b
 
+-- a member with this name is on a cycle
 abbrev pub IsOnCycle : Scene → List ℕ → Type 0
 IsOnCycle w name = (s : Site) × IsMember w s × (site_name s ≡ name) × ((n : ℕ) × Leads w n s s)
 
@@ -58,6 +59,7 @@ Exports s p reader = (g : Grant) × Contains s.observed.declaration.exports g ×
 abbrev pub Gets : Scene → Site → Site → List ℕ → Type 0
 Gets w a b p = IsMember w a × Reads w a b × Exports b p (site_name a)
 
+-- the module has the package
 abbrev pub Holds : Site → List ℕ → Type 0
 Holds s p = Contains s.observed.declaration.packages p
 
@@ -114,6 +116,7 @@ rank (OwnPackage reader p other) = 6
 rank (ServicePackage name service) = 7
 rank NoMemory = 8
 
+-- the fields of a refusal in order
 abbrev pub fields : ResolveFault → List (Option (List ℕ))
 fields NoParents = []
 fields (NotFound name by) = Some name ∷ by ∷ []
@@ -125,6 +128,7 @@ fields (OwnPackage reader p other) = Some reader ∷ Some p ∷ Some other ∷ [
 fields (ServicePackage name service) = Some name ∷ Some service ∷ []
 fields NoMemory = []
 
+-- field by field
 abbrev pub fields_cmp : List (Option (List ℕ)) → List (Option (List ℕ)) → Ordering
 fields_cmp = slice_cmp optional_cmp
 

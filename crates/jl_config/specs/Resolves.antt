@@ -38,6 +38,7 @@ pub record AreReads (w : Scene) (rs : List Read) : Type 0 where
   pub only : (r : Read) → Contains rs r → (a : Site) × (b : Site) × IsMember w a × Reads w a b × (r ≡ read_of a b)
   pub all : (a b : Site) → IsMember w a → Reads w a b → Contains rs (read_of a b)
 
+-- the configuration that a resolution gives
 pub record IsConfigurationOf (q : Asked) (g : Configuration) : Type 0 where
   pub number : g.id ≡ id_of q
   pub given : g.parents ≡ q.parents

@@ -1,4 +1,4 @@
--- How far the refusals are decided: the words of the parts of a resolution. No public clause cites these.
+-- How far the refusals are decided (`Configuration.resolve`): the words of the parts of a resolution. No public clause cites these.
 use Rattle.std.specs.Prelude.{ℕ, ◌≤◌, Option, None, Some, Err}
 use Rattle.jl_config.specs.declared.fault.ResolveFault.{ResolveFault}
 use Rattle.jl_config.specs.Located.{Asked}

@@ -1,4 +1,4 @@
--- Tables of places: the words of the code that makes them. No public clause cites these.
+-- Tables of places (`Configuration.resolve`): the words of the code that makes them. No public clause cites these.
 use Rattle.std.specs.Prelude.{ℕ, ◌+◌, List, [], ◌∷◌, Option, None, Some, Bool, false, slice_get, unwrap_or, nat_eq, if◌then◌else◌}
 use Rattle.std.specs.Option.{option_map, option_map_or}
 use Rattle.std.specs.Cmp.Lexicographic.{pointwise}

@@ -43,11 +43,7 @@ fn cycle_at(sites: &[Site], place: usize) -> Result<ResolveFault, CopyEnd>
     Ok(ResolveFault::Cycle { least })
 }
 
-fn rows_of_edges(
-    alloc: Global,
-    scene: &Scene,
-    marks: &[bool],
-) -> Result<Vec<Items<usize>>, CopyEnd>
+fn rows_of_edges(alloc: Global, scene: &Scene, marks: &[bool]) -> Result<Vec<Items<usize>>, CopyEnd>
     ensures { IfOk result (λ rows. rows.items ≡ edge_rows scene.now marks.now) }
 {
     let mut rows = Vec::with_capacity(alloc, scene.sites().len())?;

@@ -6,7 +6,7 @@ ghost use Rattle.jl_config.specs.Places.{AreMarks, AreMembers};
 ghost use Rattle.std.specs.List.{filter_map};
 ghost use Rattle.std.specs.Option.{option_to_list};
 ghost use Rattle.jl_closure.specs.Reached.{AreMarksOf};
-ghost use Rattle.jl_config.specs.ReadRows.{is_open, open_place, meant_place, required_places, passed_place, passed_places, read_rows, read_starts, marked_place, AreByName, AreReadings};
+ghost use Rattle.jl_config.specs.ReadRows.{is_eligible, eligible_place, meant_place, required_places, passed_place, passed_places, read_rows, read_starts, marked_place, AreByName, AreReadings};
 
 use crate::members::Members;
 use crate::scene::Scene;
@@ -32,11 +32,7 @@ pub struct Placed {
 }
 
 /// What each module of the set reads, in the order of the readers' names (JLS 7.7.1).
-pub fn readings_of(
-    alloc: Global,
-    scene: &Scene,
-    members: &Members,
-) -> Result<Vec<Reading>, CopyEnd>
+pub fn readings_of(alloc: Global, scene: &Scene, members: &Members) -> Result<Vec<Reading>, CopyEnd>
     requires marks { AreMarks scene.now members.now.marks.items }
     requires places { AreMembers scene.now members.now.places.items }
     ensures { IfOk result (λ readings. AreReadings scene.now readings.items) }
@@ -91,8 +87,8 @@ fn push_some(places: &mut Vec<usize>, place: Option<usize>) -> Result<(), CopyEn
 }
 
 /// Whether the module at a place is an ancestor's or marked.
-fn is_open(scene: &Scene, marks: &[bool], place: usize) -> bool
-    ensures { result ≡ is_open scene.now marks.now place }
+fn is_eligible(scene: &Scene, marks: &[bool], place: usize) -> bool
+    ensures { result ≡ is_eligible scene.now marks.now place }
 {
     match scene.sites().get(place) {
         None => false,
@@ -100,13 +96,13 @@ fn is_open(scene: &Scene, marks: &[bool], place: usize) -> bool
     }
 }
 
-fn place_if_open(scene: &Scene, marks: &[bool], place: Option<usize>) -> Option<usize>
-    ensures { result ≡ open_place scene.now marks.now place }
+fn place_if_eligible(scene: &Scene, marks: &[bool], place: Option<usize>) -> Option<usize>
+    ensures { result ≡ eligible_place scene.now marks.now place }
 {
     match place {
         None => None,
         Some(place) => {
-            if is_open(scene, marks, place) {
+            if is_eligible(scene, marks, place) {
                 Some(place)
             } else {
                 None
@@ -120,7 +116,7 @@ fn place_meant(scene: &Scene, marks: &[bool], site: &Site, name: &Name) -> Optio
     ensures { result ≡ meant_place scene.now marks.now site.now name.now }
 {
     if scene.is_here(site) {
-        place_if_open(scene, marks, scene.named(name))
+        place_if_eligible(scene, marks, scene.named(name))
     } else {
         scene.own(site, name)
     }

@@ -12,8 +12,8 @@ ghost use Rattle.jl_config.specs.Settled.{StartsAt, Settles};
 ghost use Rattle.jl_config.specs.declared.fault.ResolveFault.{ResolveFault};
 ghost use Rattle.jl_config.specs.declared.site.Site.{Site};
 
-use crate::cycle::least_cycle;
 use crate::configuration::Configuration;
+use crate::cycle::least_cycle;
 use crate::fault::ResolveFault;
 use crate::imports::{Imports, imports_of};
 use crate::members::{Members, members_of};
@@ -22,8 +22,8 @@ use crate::packages::{least_own_package, least_same_package};
 use crate::readings::{Reading, readings_of};
 use crate::reads::reads_of;
 use crate::same_name::least_same_name;
-use crate::services::least_service;
 use crate::scene::Scene;
+use crate::services::least_service;
 use jl_prim::{ConfigId, Copied, CopyEnd, Found, Items, Name, Observed};
 use std::alloc::Global;
 
