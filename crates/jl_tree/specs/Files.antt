@@ -3,6 +3,7 @@ use Rattle.std.specs.Prelude.{◌≡◌, ◌≢◌, ℕ, ◌+◌, List, [], ◌�
 use Rattle.std.specs.List.{starts_with, before_first, list_any}
 use Rattle.std.specs.Global.{Vec}
 use Rattle.jl_logic.specs.Order.{is_text}
+use Rattle.jl_logic.specs.Counts.{raised}
 use Rattle.jl_logic.specs.Lists.{AreDistinct}
 use Rattle.jl_tree.specs.declared.entry.Entry.{Entry}
 use Rattle.jl_tree.specs.declared.tree.TreeFault.{TreeFault}
@@ -35,6 +36,17 @@ abbrev pub IsNotLong : TreeFault → Type 0
 IsNotLong Failed = ⊤
 IsNotLong (TooLong n) = ⊥
 IsNotLong NoMemory = ⊤
+
+-- a failure is one fault more, and no other error is
+abbrev pub faults_with : TreeFault → ℕ → ℕ
+faults_with Failed n = raised n
+faults_with (TooLong _) n = n
+faults_with NoMemory n = n
+
+-- how many faults there are after a call, where each failure counts and nothing else
+abbrev pub faults_after : {X : Type 0} → Result X TreeFault → ℕ → ℕ
+faults_after (Ok x) n = n
+faults_after (Err e) n = faults_with e n
 
 -- the first part of a path that begins below a folder, a folder itself where more parts follow
 abbrev pub first_part : List ℕ → Entry

@@ -9,7 +9,7 @@ use Rattle.jl_tree.specs.declared.tree.TreeFault.{TreeFault}
 use Rattle.jl_tree.specs.declared.tree.TreeFault.TheVariants.{Failed, TooLong, NoMemory}
 use Rattle.jl_tree.specs.declared.sink.SinkFault.{SinkFault}
 use Rattle.jl_tree.specs.declared.sink.SinkFault.TheVariants.{Failed as SinkFailed}
-use Rattle.jl_tree.specs.Files.{File, read_of, Lists}
+use Rattle.jl_tree.specs.Files.{File, read_of, Lists, faults_after}
 
 -- a path with the bytes there, as a file
 abbrev pub file_of : List ℕ × List ℕ → File
@@ -64,13 +64,6 @@ MemLists s dir result = when (is_failing s.fails s.calls) result where
   when true r = r ≡ Err Failed
   when false (Ok listed) = Lists s.files dir (option_map (λ v. v.items) listed)
   when false (Err e) = e ≡ NoMemory
-
--- a failure is one more fault
-abbrev pub faults_after : {X : Type 0} → Result X TreeFault → ℕ → ℕ
-faults_after (Ok x) n = n
-faults_after (Err Failed) n = raised n
-faults_after (Err (TooLong _)) n = n
-faults_after (Err NoMemory) n = n
 
 -- A call was made: it stands in the count, and only the asked paths may have changed besides.
 pub record AfterCall {X : Type 0} (old new : MemTreeState) (result : Result X TreeFault) : Type 0 where

@@ -2,7 +2,7 @@
 
 ghost use Rattle.std.specs.Prelude.{◌≡◌, ◌≤◌};
 ghost use Rattle.jl_logic.specs.Counts.{Rose};
-ghost use Rattle.jl_tree.specs.Files.{IsNotLong};
+ghost use Rattle.jl_tree.specs.Files.{IsNotLong, faults_with};
 ghost use Rattle.jl_tree.specs.declared.tree.TreeFault.TheVariants as fault;
 
 use crate::entry::Entry;
@@ -40,6 +40,7 @@ impl<R> FolderTree<R> {
     fn end(&mut self, error: &io::Error) -> TreeFault
         ensures kept { self.old.faults ≤ self.new.faults }
         ensures not_long { IsNotLong result }
+        ensures exact { self.new.faults ≡ faults_with result self.old.faults }
         ensures rose { result ≡ fault.Failed → Rose self.old.faults self.new.faults }
     {
         if error.kind() == ErrorKind::OutOfMemory {
@@ -51,13 +52,15 @@ impl<R> FolderTree<R> {
 }
 
 impl<R: Files + Alloc + Clone + Drop> Tree for FolderTree<R> {
-    ghost use Rattle.std.specs.Prelude.{None};
+    ghost use Rattle.std.specs.Prelude.{None, true};
 
     ghost files = { λ _. None };
 
     ghost asked = { λ _. None };
 
     ghost faults = { λ s. s.faults };
+
+    ghost counts_exactly = { true };
 
     /// An entry whose name is not UTF-8 is a fault. A link that leads nowhere is left out.
     fn list(&mut self, alloc: Global, dir: &Name) -> Result<Option<Vec<Entry>>, TreeFault> {

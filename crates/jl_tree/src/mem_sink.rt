@@ -1,8 +1,8 @@
 //! A sink in memory.
 
-ghost use Rattle.std.specs.Prelude.{◌≡◌, ◌≤◌, ◌<◌, [], length, IfOk, OnErr, Ok, Some};
+ghost use Rattle.std.specs.Prelude.{◌≡◌, ◌≤◌, ◌<◌, [], length, true, IsTrue, IfOk, OnErr, Ok, Some};
 ghost use Rattle.jl_logic.specs.Counts.{Rose};
-ghost use Rattle.jl_tree.specs.Bytes.{Takes};
+ghost use Rattle.jl_tree.specs.Bytes.{Takes, faults_written};
 ghost use Rattle.jl_tree.specs.Memory.{mem_write, after_write};
 ghost use Rattle.jl_tree.specs.declared.mem_sink.MemEnd.TheVariants.{NoMemory};
 
@@ -81,6 +81,8 @@ impl Sink for MemSink {
 
     ghost faults = { λ s. s.faults };
 
+    ghost counts_exactly = { true };
+
     fn write(&mut self, piece: &[u8]) -> Result<usize, SinkFault>
         ensures answers { result ≡ mem_write self.old piece.now }
         ensures leaves { self.new ≡ after_write self.old piece.now }
@@ -89,6 +91,7 @@ impl Sink for MemSink {
         ensures counts { self.old.faults ≤ self.new.faults }
         ensures failed { OnErr result (Rose self.old.faults self.new.faults) }
         ensures none_taken { result ≡ Ok 0 → 0 < length piece.now → Rose self.old.faults self.new.faults }
+        ensures exact { IsTrue true → self.new.faults ≡ faults_written piece.now result self.old.faults }
     {
         let fails = is_failing_call(self.fails.as_slice(), self.calls);
         self.calls = one_more(self.calls);

@@ -1,10 +1,10 @@
 //! A tree in memory.
 
-ghost use Rattle.std.specs.Prelude.{◌≡◌, ◌≤◌, [], Some, IfOk, IfErr, IsErrOf, option_map, map};
+ghost use Rattle.std.specs.Prelude.{◌≡◌, ◌≤◌, [], true, IsTrue, Some, IfOk, IfErr, IsErrOf, option_map, map};
 ghost use Rattle.std.specs.List.{list_all};
 ghost use Rattle.jl_logic.specs.Answers.{Gives};
 ghost use Rattle.jl_logic.specs.Counts.{Rose};
-ghost use Rattle.jl_tree.specs.Files.{Lists, read_of, told, IsNotLong, AsksFor, file_at};
+ghost use Rattle.jl_tree.specs.Files.{Lists, read_of, told, IsNotLong, AsksFor, faults_after, file_at};
 ghost use Rattle.jl_tree.specs.Memory.{files_of, are_apart, is_folder_of, is_tree, IsTree, known, mem_read, MemLists, AfterCall};
 
 use crate::entry::Entry;
@@ -67,6 +67,8 @@ impl Tree for MemTree {
 
     ghost faults = { λ t. t.faults };
 
+    ghost counts_exactly = { true };
+
     fn list(&mut self, alloc: Global, dir: &Name) -> Result<Option<Vec<Entry>>, TreeFault>
         // The call fails exactly where its number says so, and else lists the folder.
         ensures answers { MemLists self.old dir.now result }
@@ -77,6 +79,7 @@ impl Tree for MemTree {
         ensures same_asked { Some self.new.asked ≡ Some self.old.asked }
         ensures counts { self.old.faults ≤ self.new.faults }
         ensures failed { IsErrOf result TreeFault.Failed → Rose self.old.faults self.new.faults }
+        ensures exact { IsTrue true → self.new.faults ≡ faults_after result self.old.faults }
     {
         let fails = is_failing_call(self.fails.as_slice(), self.calls);
         self.calls = one_more(self.calls);
@@ -101,6 +104,7 @@ impl Tree for MemTree {
         ensures asks { AsksFor (Some self.old.asked) path.now result (Some self.new.asked) }
         ensures counts { self.old.faults ≤ self.new.faults }
         ensures failed { IsErrOf result TreeFault.Failed → Rose self.old.faults self.new.faults }
+        ensures exact { IsTrue true → self.new.faults ≡ faults_after result self.old.faults }
     {
         let fails = is_failing_call(self.fails.as_slice(), self.calls);
         self.calls = one_more(self.calls);

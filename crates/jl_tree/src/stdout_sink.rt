@@ -44,11 +44,13 @@ fn put<R: Print>(rt: &R, piece: &[u8]) -> io::Result<usize>
 }
 
 impl<R: Print> Sink for StdoutSink<R> {
-    ghost use Rattle.std.specs.Prelude.{None};
+    ghost use Rattle.std.specs.Prelude.{None, true};
 
     ghost taken = { λ _. None };
 
     ghost faults = { λ s. s.faults };
+
+    ghost counts_exactly = { true };
 
     fn write(&mut self, piece: &[u8]) -> Result<usize, SinkFault> {
         let Ok(count) = put(&self.rt, piece) else {

@@ -1,9 +1,9 @@
 //! Trees of files.
 
-ghost use Rattle.std.specs.Prelude.{◌≡◌, ◌≤◌, ℕ, List, Option, IfOk, IfErr, IfSome, IsErrOf, option_map};
+ghost use Rattle.std.specs.Prelude.{◌≡◌, ◌≤◌, ℕ, Bool, IsTrue, List, Option, IfOk, IfErr, IfSome, IsErrOf, option_map};
 ghost use Rattle.jl_logic.specs.Answers.{Gives};
 ghost use Rattle.jl_logic.specs.Counts.{Rose};
-ghost use Rattle.jl_tree.specs.Files.{File, Lists, read_of, told, IsNotLong, AsksFor};
+ghost use Rattle.jl_tree.specs.Files.{File, Lists, read_of, told, IsNotLong, AsksFor, faults_after};
 ghost use Rattle.jl_tree.specs.declared.tree.TreeFault.TheVariants as fault;
 
 use crate::entry::Entry;
@@ -68,6 +68,9 @@ pub trait Tree {
     /// How often it failed. The count never falls, and stands still at the last value of a u64.
     ghost faults: { Self → ℕ };
 
+    /// Whether its count is exact: one fault more with each call that fails, and with no other.
+    ghost counts_exactly: { Bool };
+
     /// The entries of a folder, in any order. None where the folder is not there.
     fn list(&mut self, alloc: Global, dir: &Name) -> Result<Option<Vec<Entry>>, TreeFault>
         // Where the files are told, the entries are those of the folder.
@@ -76,7 +79,8 @@ pub trait Tree {
         ensures same_files { files self.new ≡ files self.old }
         ensures same_asked { asked self.new ≡ asked self.old }
         ensures counts { faults self.old ≤ faults self.new }
-        ensures failed { IsErrOf result TreeFault.Failed → Rose (faults self.old) (faults self.new) };
+        ensures failed { IsErrOf result TreeFault.Failed → Rose (faults self.old) (faults self.new) }
+        ensures exact { IsTrue counts_exactly → faults self.new ≡ faults_after result (faults self.old) };
 
     /// The bytes of a whole file, which may be `most` at the most. None where the file is not there.
     fn read(
@@ -90,5 +94,6 @@ pub trait Tree {
         ensures same_files { files self.new ≡ files self.old }
         ensures asks { AsksFor (asked self.old) path.now result (asked self.new) }
         ensures counts { faults self.old ≤ faults self.new }
-        ensures failed { IsErrOf result TreeFault.Failed → Rose (faults self.old) (faults self.new) };
+        ensures failed { IsErrOf result TreeFault.Failed → Rose (faults self.old) (faults self.new) }
+        ensures exact { IsTrue counts_exactly → faults self.new ≡ faults_after result (faults self.old) };
 }
