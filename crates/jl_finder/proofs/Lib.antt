@@ -6,4 +6,5 @@ pub mod Walks
 pub mod Scans
 pub mod Firsts
 pub mod Elements
+pub mod Asking
 mod Rows

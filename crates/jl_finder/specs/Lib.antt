@@ -1,4 +1,5 @@
 pub mod Paths
+pub mod Asking
 pub mod Folders
 pub mod Observed
 pub mod Scanning

@@ -1,12 +1,15 @@
 //! Directories of modules.
 
-ghost use Rattle.std.specs.Prelude.{◌≡◌, ◌≤◌, List, [], Some, IfOk, IsErrOf, map};
+ghost use Rattle.std.specs.Prelude.{◌≡◌, ◌≤◌, List, [], Some, IfOk, IsErrOf, map, IfErr, IsTrue, MatchResult};
 ghost use Rattle.jl_logic.specs.Answers.{Gives};
 ghost use Rattle.jl_logic.specs.Counts.{Rose};
 ghost use Rattle.jl_tree.specs.Files.{File};
 ghost use Rattle.jl_finder.specs.declared.fault.FindFault.TheVariants as finds;
+ghost use Rattle.jl_finder.specs.Paths as paths;
 ghost use Rattle.jl_finder.specs.Observed.{told, scan_entries, Tally, name_of, among};
 ghost use Rattle.jl_finder.specs.Scanning.{tally_of, folder_found, entry_found, with_found};
+ghost use Rattle.std.specs.List.{flat_map};
+ghost use Rattle.jl_finder.specs.Asking.{faults_with, IsNotRead, TellsInside, AsksUpTo, asked_at, place_in, place_at};
 
 use crate::counts::{Counts, one_folder};
 use crate::fault::FindFault;
@@ -30,6 +33,10 @@ pub fn scan_directory<T: Tree>(
     ensures same_files { T.files tree.new ≡ T.files tree.old }
     ensures counts { T.faults tree.old ≤ T.faults tree.new }
     ensures read_fault { IsErrOf result FindFault.ReadFault → Rose (T.faults tree.old) (T.faults tree.new) }
+    ensures exact { IsTrue T.counts_exactly → MatchResult result (λ _. T.faults tree.new ≡ T.faults tree.old) (λ e. T.faults tree.new ≡ faults_with e (T.faults tree.old)) }
+    ensures inside { IfErr result TellsInside }
+    ensures asks { (files : List File) → T.files tree.old ≡ Some files → AsksUpTo (T.asked tree.old) (flat_map (place_in files dir.now) entries.now) (T.asked tree.new) }
+    ensures asked { (files : List File) → T.files tree.old ≡ Some files → IfOk result (λ _. T.asked tree.new ≡ asked_at (T.asked tree.old) (flat_map (place_in files dir.now) entries.now)) }
 {
     let mut kept = Kept {
         names: IndexSet::new(alloc),
@@ -56,6 +63,8 @@ fn keep_found(dir: &Name, kept: Kept, found: Option<Observed>) -> Result<Kept, F
     ensures names { kept.names.keys ≡ map name_of kept.modules.items → IfOk result (λ after. after.names.keys ≡ map name_of after.modules.items) }
     ensures gives { (t : Tally) → kept.names.keys ≡ map name_of kept.modules.items → Gives told (λ after. (after.modules.items, t)) result (with_found dir.now kept.modules.items (found, t)) }
     ensures no_read_fault { IsErrOf result FindFault.ReadFault → ⊥ }
+    ensures not_read { IfErr result IsNotRead }
+    ensures inside { IfErr result TellsInside }
 {
     match found {
         None => Ok(kept),
@@ -68,6 +77,8 @@ fn keep_module(dir: &Name, kept: Kept, found: Observed) -> Result<Kept, FindFaul
     ensures names { kept.names.keys ≡ map name_of kept.modules.items → IfOk result (λ after. after.names.keys ≡ map name_of after.modules.items) }
     ensures gives { (t : Tally) → kept.names.keys ≡ map name_of kept.modules.items → Gives told (λ after. (after.modules.items, t)) result (among dir.now kept.modules.items (found, t)) }
     ensures no_read_fault { IsErrOf result FindFault.ReadFault → ⊥ }
+    ensures not_read { IfErr result IsNotRead }
+    ensures inside { IfErr result TellsInside }
 {
     let mut names = kept.names;
     let mut modules = kept.modules;
@@ -99,6 +110,11 @@ fn scan_entry<T: Tree>(
     ensures same_files { T.files tree.new ≡ T.files tree.old }
     ensures counts { T.faults tree.old ≤ T.faults tree.new }
     ensures read_fault { IsErrOf result FindFault.ReadFault → Rose (T.faults tree.old) (T.faults tree.new) }
+    ensures exact { IsTrue T.counts_exactly → MatchResult result (λ _. T.faults tree.new ≡ T.faults tree.old) (λ e. T.faults tree.new ≡ faults_with e (T.faults tree.old)) }
+    ensures inside { IfErr result TellsInside }
+    ensures untouched { IsTrue (paths.is_archive entry.now.name) → tree.new ≡ tree.old }
+    ensures asks { (files : List File) → T.files tree.old ≡ Some files → AsksUpTo (T.asked tree.old) (place_in files dir.now entry.now) (T.asked tree.new) }
+    ensures asked { (files : List File) → T.files tree.old ≡ Some files → IfOk result (λ _. T.asked tree.new ≡ asked_at (T.asked tree.old) (place_in files dir.now entry.now)) }
 {
     if is_archive(entry.name.as_bytes()) {
         let path = path_in(alloc, dir, entry.name.as_str())?;
@@ -122,6 +138,10 @@ fn scan_folder<T: Tree>(
     ensures same_files { T.files tree.new ≡ T.files tree.old }
     ensures counts { T.faults tree.old ≤ T.faults tree.new }
     ensures read_fault { IsErrOf result FindFault.ReadFault → Rose (T.faults tree.old) (T.faults tree.new) }
+    ensures exact { IsTrue T.counts_exactly → MatchResult result (λ _. T.faults tree.new ≡ T.faults tree.old) (λ e. T.faults tree.new ≡ faults_with e (T.faults tree.old)) }
+    ensures inside { IfErr result TellsInside }
+    ensures asks { (files : List File) → T.files tree.old ≡ Some files → AsksUpTo (T.asked tree.old) (place_at files place) (T.asked tree.new) }
+    ensures asked { (files : List File) → T.files tree.old ≡ Some files → IfOk result (λ _. T.asked tree.new ≡ asked_at (T.asked tree.old) (place_at files place)) }
 {
     let counted = one_folder(counts)?;
     let entries = entries_or_none(alloc, tree, &place)?;

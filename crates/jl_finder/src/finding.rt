@@ -1,12 +1,15 @@
 //! All elements of a module path in order.
 
-ghost use Rattle.std.specs.Prelude.{◌≡◌, ◌≤◌, List, [], Some, IfOk, IfSome, IsErrOf};
+ghost use Rattle.std.specs.Prelude.{◌≡◌, ◌≤◌, List, [], Some, IfOk, IfSome, IsErrOf, IfErr, IsTrue, MatchResult};
 ghost use Rattle.jl_logic.specs.Answers.{Gives};
 ghost use Rattle.jl_logic.specs.Counts.{Rose};
 ghost use Rattle.jl_tree.specs.Files.{File};
+ghost use Rattle.jl_finder.specs.Paths as paths;
 ghost use Rattle.jl_finder.specs.Observed as observed;
 ghost use Rattle.jl_finder.specs.Observed.{told, observed};
 ghost use Rattle.jl_finder.specs.Scanning.{AreEntries, tally_of, listed_found, elements_found};
+ghost use Rattle.std.specs.List.{flat_map};
+ghost use Rattle.jl_finder.specs.Asking.{faults_with, TellsInside, AsksUpTo, asked_at, places_of};
 
 use crate::counts::{Counts, one_folder};
 use crate::directory::scan_directory;
@@ -30,6 +33,10 @@ pub fn find_all<T: Tree>(alloc: Global, tree: &mut T, elements: &[Name]) -> Resu
     ensures same_files { T.files tree.new ≡ T.files tree.old }
     ensures counts { T.faults tree.old ≤ T.faults tree.new }
     ensures read_fault { IsErrOf result FindFault.ReadFault → Rose (T.faults tree.old) (T.faults tree.new) }
+    ensures exact { IsTrue T.counts_exactly → MatchResult result (λ _. T.faults tree.new ≡ T.faults tree.old) (λ e. T.faults tree.new ≡ faults_with e (T.faults tree.old)) }
+    ensures inside { IfErr result TellsInside }
+    ensures asks { (files : List File) → T.files tree.old ≡ Some files → AsksUpTo (T.asked tree.old) (flat_map (places_of files) elements.now) (T.asked tree.new) }
+    ensures asked { (files : List File) → T.files tree.old ≡ Some files → IfOk result (λ _. T.asked tree.new ≡ asked_at (T.asked tree.old) (flat_map (places_of files) elements.now)) }
 {
     let modules = scan_elements(alloc, tree, elements)?;
     let kept = first_of_each(alloc, modules)?;
@@ -48,6 +55,10 @@ fn scan_elements<T: Tree>(
     ensures same_files { T.files tree.new ≡ T.files tree.old }
     ensures counts { T.faults tree.old ≤ T.faults tree.new }
     ensures read_fault { IsErrOf result FindFault.ReadFault → Rose (T.faults tree.old) (T.faults tree.new) }
+    ensures exact { IsTrue T.counts_exactly → MatchResult result (λ _. T.faults tree.new ≡ T.faults tree.old) (λ e. T.faults tree.new ≡ faults_with e (T.faults tree.old)) }
+    ensures inside { IfErr result TellsInside }
+    ensures asks { (files : List File) → T.files tree.old ≡ Some files → AsksUpTo (T.asked tree.old) (flat_map (places_of files) elements.now) (T.asked tree.new) }
+    ensures asked { (files : List File) → T.files tree.old ≡ Some files → IfOk result (λ _. T.asked tree.new ≡ asked_at (T.asked tree.old) (flat_map (places_of files) elements.now)) }
 {
     let mut modules = Vec::new(alloc);
     let mut counts = Counts {
@@ -74,6 +85,11 @@ fn scan_element<T: Tree>(
     ensures same_files { T.files tree.new ≡ T.files tree.old }
     ensures counts { T.faults tree.old ≤ T.faults tree.new }
     ensures read_fault { IsErrOf result FindFault.ReadFault → Rose (T.faults tree.old) (T.faults tree.new) }
+    ensures exact { IsTrue T.counts_exactly → MatchResult result (λ _. T.faults tree.new ≡ T.faults tree.old) (λ e. T.faults tree.new ≡ faults_with e (T.faults tree.old)) }
+    ensures inside { IfErr result TellsInside }
+    ensures untouched { IsTrue (paths.is_archive element.now) → tree.new ≡ tree.old }
+    ensures asks { (files : List File) → T.files tree.old ≡ Some files → AsksUpTo (T.asked tree.old) (places_of files element.now) (T.asked tree.new) }
+    ensures asked { (files : List File) → T.files tree.old ≡ Some files → IfOk result (λ _. T.asked tree.new ≡ asked_at (T.asked tree.old) (places_of files element.now)) }
 {
     if is_archive(element.as_bytes()) {
         return Err(FindFault::Archive(element.copy()?));
@@ -96,6 +112,10 @@ fn scan_listed<T: Tree>(
     ensures same_files { T.files tree.new ≡ T.files tree.old }
     ensures counts { T.faults tree.old ≤ T.faults tree.new }
     ensures read_fault { IsErrOf result FindFault.ReadFault → Rose (T.faults tree.old) (T.faults tree.new) }
+    ensures exact { IsTrue T.counts_exactly → MatchResult result (λ _. T.faults tree.new ≡ T.faults tree.old) (λ e. T.faults tree.new ≡ faults_with e (T.faults tree.old)) }
+    ensures inside { IfErr result TellsInside }
+    ensures asks { (files : List File) → T.files tree.old ≡ Some files → AreEntries files element.now entries.now → AsksUpTo (T.asked tree.old) (places_of files element.now) (T.asked tree.new) }
+    ensures asked { (files : List File) → T.files tree.old ≡ Some files → AreEntries files element.now entries.now → IfOk result (λ _. T.asked tree.new ≡ asked_at (T.asked tree.old) (places_of files element.now)) }
 {
     let counted = one_folder(counts)?;
     if !declares(entries) {

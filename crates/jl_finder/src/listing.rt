@@ -1,10 +1,11 @@
 //! What stands in a folder, in the order of the names.
 
-ghost use Rattle.std.specs.Prelude.{◌≡◌, ◌≤◌, List, Some, option_map, IfOk, IfErr, IsErrOf, find};
+ghost use Rattle.std.specs.Prelude.{◌≡◌, ◌≤◌, List, Some, option_map, IfOk, IfErr, IsErrOf, find, IsTrue, MatchResult};
 ghost use Rattle.jl_logic.specs.Counts.{Rose};
 ghost use Rattle.jl_tree.specs.Files.{File};
 ghost use Rattle.jl_finder.specs.Scanning as scanned;
 ghost use Rattle.jl_finder.specs.Scanning.{AreSorted, AreEntries, IsListed, TellsNothing};
+ghost use Rattle.jl_finder.specs.Asking.{faults_with, TellsInside};
 
 use crate::fault::FindFault;
 use crate::names::is_class_file;
@@ -23,6 +24,9 @@ pub fn entries_in<T: Tree>(
     ensures same_files { T.files tree.new ≡ T.files tree.old }
     ensures counts { T.faults tree.old ≤ T.faults tree.new }
     ensures read_fault { IsErrOf result FindFault.ReadFault → Rose (T.faults tree.old) (T.faults tree.new) }
+    ensures same_asked { T.asked tree.new ≡ T.asked tree.old }
+    ensures exact { IsTrue T.counts_exactly → MatchResult result (λ _. T.faults tree.new ≡ T.faults tree.old) (λ e. T.faults tree.new ≡ faults_with e (T.faults tree.old)) }
+    ensures inside { IfErr result TellsInside }
 {
     match tree.list(alloc, dir) {
         Ok(None) => Ok(None),
@@ -44,6 +48,9 @@ pub fn entries_or_none<T: Tree>(
     ensures same_files { T.files tree.new ≡ T.files tree.old }
     ensures counts { T.faults tree.old ≤ T.faults tree.new }
     ensures read_fault { IsErrOf result FindFault.ReadFault → Rose (T.faults tree.old) (T.faults tree.new) }
+    ensures same_asked { T.asked tree.new ≡ T.asked tree.old }
+    ensures exact { IsTrue T.counts_exactly → MatchResult result (λ _. T.faults tree.new ≡ T.faults tree.old) (λ e. T.faults tree.new ≡ faults_with e (T.faults tree.old)) }
+    ensures inside { IfErr result TellsInside }
 {
     match entries_in(alloc, tree, dir)? {
         None => Ok(Vec::new(alloc)),

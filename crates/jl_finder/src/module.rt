@@ -1,14 +1,15 @@
 //! One module.
 
-ghost use Rattle.std.specs.Prelude.{◌≡◌, ◌≤◌, List, Some, IfSome, IsErrOf, option_map};
+ghost use Rattle.std.specs.Prelude.{◌≡◌, ◌≤◌, List, Some, IfSome, IsErrOf, option_map, IfErr, IfOk, IsTrue, MatchResult, ◌∷◌, [], ◌⊎◌};
 ghost use Rattle.jl_logic.specs.Answers.{Gives};
 ghost use Rattle.jl_logic.specs.Counts.{Rose};
-ghost use Rattle.jl_tree.specs.Files.{File, file_at};
+ghost use Rattle.jl_tree.specs.Files.{File, file_at, asked_for};
 ghost use Rattle.jl_modinfo.specs.Reading.{info_of};
 ghost use Rattle.jl_finder.specs.Folders.{declaration_in, packages_below};
 ghost use Rattle.jl_finder.specs.Observed as observed;
 ghost use Rattle.jl_finder.specs.Observed.{told, observed_or, declared_by, content_of};
 ghost use Rattle.jl_finder.specs.Scanning.{AreEntries, tally_of, whole_content};
+ghost use Rattle.jl_finder.specs.Asking.{faults_with, IsNotRead, TellsInside, AsksUpTo, asked_at};
 
 use crate::counts::{Counts, one_module};
 use crate::fault::FindFault;
@@ -32,6 +33,10 @@ pub fn scan_module<T: Tree>(
     ensures same_files { T.files tree.new ≡ T.files tree.old }
     ensures counts { T.faults tree.old ≤ T.faults tree.new }
     ensures read_fault { IsErrOf result FindFault.ReadFault → Rose (T.faults tree.old) (T.faults tree.new) }
+    ensures exact { IsTrue T.counts_exactly → MatchResult result (λ _. T.faults tree.new ≡ T.faults tree.old) (λ e. T.faults tree.new ≡ faults_with e (T.faults tree.old)) }
+    ensures inside { IfErr result TellsInside }
+    ensures asks { AsksUpTo (T.asked tree.old) (place ∷ []) (T.asked tree.new) }
+    ensures asked { IfOk result (λ _. T.asked tree.new ≡ asked_at (T.asked tree.old) (place ∷ [])) }
 {
     let counted = one_module(counts)?;
     let walked = walk(alloc, tree, &place, entries, counted.folders)?;
@@ -55,6 +60,10 @@ fn module_at<T: Tree>(
     ensures same_files { T.files tree.new ≡ T.files tree.old }
     ensures counts { T.faults tree.old ≤ T.faults tree.new }
     ensures read_fault { IsErrOf result FindFault.ReadFault → Rose (T.faults tree.old) (T.faults tree.new) }
+    ensures exact { IsTrue T.counts_exactly → MatchResult result (λ _. T.faults tree.new ≡ T.faults tree.old) (λ e. T.faults tree.new ≡ faults_with e (T.faults tree.old)) }
+    ensures inside { IfErr result TellsInside }
+    ensures asks { AsksUpTo (T.asked tree.old) (place ∷ []) (T.asked tree.new) }
+    ensures asked { IfOk result (λ _. T.asked tree.new ≡ asked_at (T.asked tree.old) (place ∷ [])) }
 {
     match first_top_class(entries) {
         Some(class) => {
@@ -76,6 +85,10 @@ fn read_module<T: Tree>(
     ensures same_files { T.files tree.new ≡ T.files tree.old }
     ensures counts { T.faults tree.old ≤ T.faults tree.new }
     ensures read_fault { IsErrOf result FindFault.ReadFault → Rose (T.faults tree.old) (T.faults tree.new) }
+    ensures exact { IsTrue T.counts_exactly → MatchResult result (λ _. T.faults tree.new ≡ T.faults tree.old) (λ e. T.faults tree.new ≡ faults_with e (T.faults tree.old)) }
+    ensures inside { IfErr result TellsInside }
+    ensures asks { AsksUpTo (T.asked tree.old) (place ∷ []) (T.asked tree.new) }
+    ensures asked { IfOk result (λ _. T.asked tree.new ≡ asked_at (T.asked tree.old) (place ∷ [])) }
 {
     let file = path_in(alloc, &place, "module-info.class")?;
     let content = content_at(alloc, tree, &file)?;
@@ -95,6 +108,10 @@ fn content_at<T: Tree>(
     ensures same_files { T.files tree.new ≡ T.files tree.old }
     ensures counts { T.faults tree.old ≤ T.faults tree.new }
     ensures read_fault { IsErrOf result FindFault.ReadFault → Rose (T.faults tree.old) (T.faults tree.new) }
+    ensures exact { IsTrue T.counts_exactly → MatchResult result (λ _. T.faults tree.new ≡ T.faults tree.old) (λ e. T.faults tree.new ≡ faults_with e (T.faults tree.old)) }
+    ensures inside { IfErr result TellsInside }
+    ensures asks { (T.asked tree.new ≡ T.asked tree.old) ⊎ (T.asked tree.new ≡ asked_for (T.asked tree.old) file.now) }
+    ensures asked { IfOk result (λ _. T.asked tree.new ≡ asked_for (T.asked tree.old) file.now) }
 {
     match tree.read(alloc, file, MOST_FILE_BYTES) {
         Ok(content) => Ok(content),
@@ -115,6 +132,8 @@ fn declared_in(
     requires { file ≡ declaration_in place }
     ensures gives { Gives told (λ o. o) result (observed_or place (info_of bytes.now packages.now)) }
     ensures no_read_fault { IsErrOf result FindFault.ReadFault → ⊥ }
+    ensures not_read { IfErr result IsNotRead }
+    ensures inside { IfErr result TellsInside }
 {
     match read_info(alloc, bytes, packages) {
         Ok(declaration) => Ok(Observed { declaration, place }),

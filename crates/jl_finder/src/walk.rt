@@ -1,6 +1,6 @@
 //! The folders below a module's folder.
 
-ghost use Rattle.std.specs.Prelude.{◌≡◌, ◌≤◌, ◌∷◌, ◌++◌, [], List, Some, nat_eq, slice_get, IfOk, IfErr, IsErrOf, if◌then◌else◌};
+ghost use Rattle.std.specs.Prelude.{◌≡◌, ◌≤◌, ◌∷◌, ◌++◌, [], List, Some, nat_eq, slice_get, IfOk, IfErr, IsErrOf, if◌then◌else◌, IsTrue, MatchResult};
 ghost use Rattle.std.specs.Cmp.Lexicographic.{pointwise};
 ghost use Rattle.std.specs.List.{IsDistinct};
 ghost use Rattle.indexmap.specs.IndexSet.{insert_all};
@@ -10,6 +10,7 @@ ghost use Rattle.jl_tree.specs.Files.{File};
 ghost use Rattle.jl_finder.specs.Observed.{told};
 ghost use Rattle.jl_finder.specs.Scanning as scanned;
 ghost use Rattle.jl_finder.specs.Scanning.{AreEntries, TellsNothing, Steps, walked_in, walked_from, walked_of};
+ghost use Rattle.jl_finder.specs.Asking.{faults_with, TellsInside};
 
 use crate::fault::FindFault;
 use crate::listing::{entries_or_none, holds_class};
@@ -46,6 +47,9 @@ pub fn walk<T: Tree>(
     ensures same_files { T.files tree.new ≡ T.files tree.old }
     ensures counts { T.faults tree.old ≤ T.faults tree.new }
     ensures read_fault { IsErrOf result FindFault.ReadFault → Rose (T.faults tree.old) (T.faults tree.new) }
+    ensures same_asked { T.asked tree.new ≡ T.asked tree.old }
+    ensures exact { IsTrue T.counts_exactly → MatchResult result (λ _. T.faults tree.new ≡ T.faults tree.old) (λ e. T.faults tree.new ≡ faults_with e (T.faults tree.old)) }
+    ensures inside { IfErr result TellsInside }
 {
     let mut walking = Walking {
         folders: with_folders(IndexSet::new(alloc), alloc, "", top)?,
@@ -77,6 +81,9 @@ fn walk_folder<T: Tree>(
     ensures same_files { T.files tree.new ≡ T.files tree.old }
     ensures counts { T.faults tree.old ≤ T.faults tree.new }
     ensures read_fault { IsErrOf result FindFault.ReadFault → Rose (T.faults tree.old) (T.faults tree.new) }
+    ensures same_asked { T.asked tree.new ≡ T.asked tree.old }
+    ensures exact { IsTrue T.counts_exactly → MatchResult result (λ _. T.faults tree.new ≡ T.faults tree.old) (λ e. T.faults tree.new ≡ faults_with e (T.faults tree.old)) }
+    ensures inside { IfErr result TellsInside }
 {
     let path = path_in(alloc, place, folder.as_str())?;
     let front = behind(alloc, folder.as_str(), "/")?;

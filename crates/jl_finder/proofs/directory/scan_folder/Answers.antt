@@ -1,6 +1,8 @@
-use Rattle.std.proofs.Common.{◌∙◌, sym, subst}
+use Rattle.std.proofs.Common.{◌∙◌, sym, subst, ◌∷◌, []}
 use Rattle.std.proofs.lemmas.Result.{err_from_is_err_and}
 use Rattle.jl_finder.specs.Scanning.{AreEntries, tally_of}
+use Rattle.jl_finder.specs.Asking.{place_at}
+use Rattle.jl_finder.proofs.Asking.{asks_so, asked_so, asked_nothing, no_place, place_there}
 use Rattle.jl_finder.proofs.Scans.{folder_without, folder_fails, folder_done}
 use Rattle.jl_finder.proofs.directory.scan_folder.Goals as goal
 
@@ -19,3 +21,19 @@ pub returns-clause-gives : goal.returns-clause-gives
 returns-clause-gives g c = λ files e.
     folder_done files c.args.place c.as_slice.result.now (tally_of c.args.counts) (tally_of c.in_ok-counted.counted) _ _ (subst (AreEntries files c.args.place) (sym c.as_slice.ensures.value) (c.in_ok-entries.ensures.lists files e)) c.in_ok-counted.ensures.gives
     (sym c.declares.ensures ∙ c.if-not-declares.false) (c.in_ok-scanned.ensures.gives files (c.entries_or_none.ensures.same_files ∙ e) (subst (AreEntries files c.args.place) (sym c.as_slice-2.ensures.value) (c.in_ok-entries.ensures.lists files e)))
+
+pub returns-then-not-declares-clause-asked : goal.returns-then-not-declares-clause-asked
+returns-then-not-declares-clause-asked g c = λ files e.
+    asked_nothing (g.T.Tree.asked c.args.tree.now) (g.T.Tree.asked c.entries_or_none.new.tree) (place_at files c.args.place) (no_place files c.args.place c.as_slice.result.now (subst (AreEntries files c.args.place) (sym c.as_slice.ensures.value) (c.in_ok-entries.ensures.lists files e)) (sym c.declares.ensures ∙ c.if-not-declares.true)) c.entries_or_none.ensures.same_asked
+
+pub returns-in_err-scanned-clause-asks : goal.returns-in_err-scanned-clause-asks
+returns-in_err-scanned-clause-asks g c = λ files e.
+    asks_so (g.T.Tree.asked c.args.tree.now) (g.T.Tree.asked c.entries_or_none.new.tree) (g.T.Tree.asked c.scan_module.new.tree) (c.args.place ∷ []) (place_at files c.args.place) c.entries_or_none.ensures.same_asked (place_there files c.args.place c.as_slice.result.now (subst (AreEntries files c.args.place) (sym c.as_slice.ensures.value) (c.in_ok-entries.ensures.lists files e)) (sym c.declares.ensures ∙ c.if-not-declares.false)) c.scan_module.ensures.asks
+
+pub returns-clause-asks : goal.returns-clause-asks
+returns-clause-asks g c = λ files e.
+    asks_so (g.T.Tree.asked c.args.tree.now) (g.T.Tree.asked c.entries_or_none.new.tree) (g.T.Tree.asked c.scan_module.new.tree) (c.args.place ∷ []) (place_at files c.args.place) c.entries_or_none.ensures.same_asked (place_there files c.args.place c.as_slice.result.now (subst (AreEntries files c.args.place) (sym c.as_slice.ensures.value) (c.in_ok-entries.ensures.lists files e)) (sym c.declares.ensures ∙ c.if-not-declares.false)) c.scan_module.ensures.asks
+
+pub returns-clause-asked : goal.returns-clause-asked
+returns-clause-asked g c = λ files e.
+    asked_so (g.T.Tree.asked c.args.tree.now) (g.T.Tree.asked c.entries_or_none.new.tree) (g.T.Tree.asked c.scan_module.new.tree) (c.args.place ∷ []) (place_at files c.args.place) c.entries_or_none.ensures.same_asked (place_there files c.args.place c.as_slice.result.now (subst (AreEntries files c.args.place) (sym c.as_slice.ensures.value) (c.in_ok-entries.ensures.lists files e)) (sym c.declares.ensures ∙ c.if-not-declares.false)) c.in_ok-scanned.ensures.asked

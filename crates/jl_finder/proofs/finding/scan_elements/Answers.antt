@@ -1,6 +1,9 @@
-use Rattle.std.proofs.Common.{sym, ◌∙◌, arith}
+use Rattle.std.proofs.Common.{refl, sym, ◌∙◌, arith, ap}
 use Rattle.std.proofs.lemmas.Result.{err_from_is_err_and}
-use Rattle.jl_finder.specs.Scanning.{tally_of, elements_found}
+use Rattle.jl_finder.specs.Scanning.{tally_of, elements_found, modules_or}
+use Rattle.jl_finder.specs.Observed.{scan_elements}
+use Rattle.jl_finder.specs.Asking.{places_of, faults_with}
+use Rattle.jl_finder.proofs.Asking.{asks_next, asked_next, asks_some, asked_whole, starts_asking}
 use Rattle.jl_finder.proofs.Elements.{element_fails, element_done, elements_over}
 use Rattle.jl_finder.proofs.finding.scan_elements.Goals as goal
 
@@ -14,6 +17,8 @@ pub loop-element-preserved : goal.loop-element-preserved
 loop-element-preserved g c = record {
   same_files = c.scan_element.ensures.same_files ∙ c.loop-element.invariant.same_files;
   counts = omega (arith, c.scan_element.ensures.counts, c.loop-element.invariant.counts);
+  asked = λ files e. asked_next (places_of files) (g.T.Tree.asked c.args.tree.now) (g.T.Tree.asked c.loop-element.tree) (g.T.Tree.asked c.scan_element.new.tree) c.args.elements.now c.loop-element.element-index c.element-item.result c.loop-element-test.true c.element-item.is (c.loop-element.invariant.asked files e) (c.in_ok-found.ensures.asked files (c.loop-element.invariant.same_files ∙ e));
+  exact = λ x. c.in_ok-found.ensures.exact x ∙ c.loop-element.invariant.exact x;
   gives = λ files e.
       element_done files c.args.elements.now c.loop-element.element-index c.element-item.result c.loop-element.modules.items c.in_ok-found.found.0.items _ (tally_of c.loop-element.counts) (tally_of c.in_ok-found.found.1) (elements_found files c.args.elements.now) c.loop-element-test.true c.element-item.is
       (c.in_ok-found.ensures.gives files (c.loop-element.invariant.same_files ∙ e)) c.in_ok-append.ensures.items (c.loop-element.invariant.gives files e);
@@ -22,3 +27,39 @@ loop-element-preserved g c = record {
 pub returns-clause-gives : goal.returns-clause-gives
 returns-clause-gives g c = λ files e.
     sym (c.loop-element.invariant.gives files e) ∙ elements_over files c.args.elements.now c.loop-element.element-index c.loop-element.modules.items (tally_of c.loop-element.counts) (omega (arith, c.loop-element-test.false))
+
+pub returns-in_err-found-clause-exact : goal.returns-in_err-found-clause-exact
+returns-in_err-found-clause-exact g c =
+    let p = err_from_is_err_and c.from_residual.result c.from_residual.ensures.1 in
+    rw (p.1, p.2) (λ x. c.in_err-found.ensures.exact x ∙ ap (faults_with _) (c.loop-element.invariant.exact x))
+
+pub returns-in_err-append-clause-exact : goal.returns-in_err-append-clause-exact
+returns-in_err-append-clause-exact g c =
+    let p = err_from_is_err_and c.from_residual-in_err-append.result c.from_residual-in_err-append.ensures.1 in
+    rw (p.1, p.2) (λ x. c.in_ok-found.ensures.exact x ∙ c.loop-element.invariant.exact x)
+
+pub returns-in_err-found-clause-asks : goal.returns-in_err-found-clause-asks
+returns-in_err-found-clause-asks g c = λ files e.
+    asks_next (places_of files) (g.T.Tree.asked c.args.tree.now) (g.T.Tree.asked c.loop-element.tree) (g.T.Tree.asked c.scan_element.new.tree) c.args.elements.now c.loop-element.element-index c.element-item.result c.loop-element-test.true c.element-item.is (c.loop-element.invariant.asked files e) (c.scan_element.ensures.asks files (c.loop-element.invariant.same_files ∙ e))
+
+pub returns-in_err-append-clause-asks : goal.returns-in_err-append-clause-asks
+returns-in_err-append-clause-asks g c = λ files e.
+    asks_next (places_of files) (g.T.Tree.asked c.args.tree.now) (g.T.Tree.asked c.loop-element.tree) (g.T.Tree.asked c.scan_element.new.tree) c.args.elements.now c.loop-element.element-index c.element-item.result c.loop-element-test.true c.element-item.is (c.loop-element.invariant.asked files e) (c.scan_element.ensures.asks files (c.loop-element.invariant.same_files ∙ e))
+
+pub returns-clause-exact : goal.returns-clause-exact
+returns-clause-exact g c = λ x. c.loop-element.invariant.exact x
+
+pub returns-clause-asks : goal.returns-clause-asks
+returns-clause-asks g c = λ files e. asks_some (places_of files) (g.T.Tree.asked c.args.tree.now) (g.T.Tree.asked c.loop-element.tree) c.args.elements.now c.loop-element.element-index (c.loop-element.invariant.asked files e)
+
+pub returns-clause-asked : goal.returns-clause-asked
+returns-clause-asked g c = λ files e. asked_whole (places_of files) (g.T.Tree.asked c.args.tree.now) (g.T.Tree.asked c.loop-element.tree) c.args.elements.now c.loop-element.element-index (omega (arith, c.loop-element-test.false)) (c.loop-element.invariant.asked files e)
+
+pub loop-element-init : goal.loop-element-init
+loop-element-init g c = record {
+  same_files = refl;
+  counts = omega arith;
+  asked = λ files e. starts_asking (g.T.Tree.asked c.args.tree.now);
+  exact = λ x. refl;
+  gives = λ files e. ap (λ os. modules_or (scan_elements files c.args.elements.now os (record { modules = 0; folders = 0 }))) c.new-modules.ensures.items;
+}

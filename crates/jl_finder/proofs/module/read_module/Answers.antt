@@ -1,5 +1,6 @@
 use Rattle.std.proofs.Common.{◌∙◌, sym, ap, Some, option_map}
 use Rattle.std.proofs.lemmas.Result.{err_from_is_err_and}
+use Rattle.jl_finder.proofs.Asking.{asks_one, asked_one, if_ok}
 use Rattle.jl_finder.proofs.Modules.{module_so, told_none, told_some, told_large}
 use Rattle.jl_finder.proofs.module.read_module.Goals as goal
 
@@ -16,3 +17,18 @@ pub returns-in-Some-clause-gives : goal.returns-in-Some-clause-gives
 returns-in-Some-clause-gives g c = λ files e.
     module_so c.declared_in-in-Some.result _ _ (told_some (g.T.Tree.files c.args.tree.now) files c.args.place c.in_ok-file.file c.as_slice.result.now c.args.packages.now (option_map (λ v. v.items) c.in_ok-content.content) e (ap (λ o. option_map (λ v. v.items) o) c.in-Some.is ∙ ap Some (sym c.as_slice.ensures.value)) c.in_ok-content.ensures.gives c.in_ok-file.ensures)
     c.declared_in-in-Some.ensures.gives
+
+pub returns-in_err-content-clause-asks : goal.returns-in_err-content-clause-asks
+returns-in_err-content-clause-asks g c = asks_one (g.T.Tree.asked c.args.tree.now) (g.T.Tree.asked c.content_at.new.tree) c.args.place c.in_ok-file.file c.in_ok-file.ensures c.content_at.ensures.asks
+
+pub returns-in-None-clause-asks : goal.returns-in-None-clause-asks
+returns-in-None-clause-asks g c = asks_one (g.T.Tree.asked c.args.tree.now) (g.T.Tree.asked c.content_at.new.tree) c.args.place c.in_ok-file.file c.in_ok-file.ensures c.content_at.ensures.asks
+
+pub returns-in-Some-clause-asks : goal.returns-in-Some-clause-asks
+returns-in-Some-clause-asks g c = asks_one (g.T.Tree.asked c.args.tree.now) (g.T.Tree.asked c.content_at.new.tree) c.args.place c.in_ok-file.file c.in_ok-file.ensures c.content_at.ensures.asks
+
+pub returns-in-None-clause-asked : goal.returns-in-None-clause-asked
+returns-in-None-clause-asked g c = if_ok c.declared_in.result (asked_one (g.T.Tree.asked c.args.tree.now) (g.T.Tree.asked c.content_at.new.tree) c.args.place c.in_ok-file.file c.in_ok-file.ensures c.in_ok-content.ensures.asked)
+
+pub returns-in-Some-clause-asked : goal.returns-in-Some-clause-asked
+returns-in-Some-clause-asked g c = if_ok c.declared_in-in-Some.result (asked_one (g.T.Tree.asked c.args.tree.now) (g.T.Tree.asked c.content_at.new.tree) c.args.place c.in_ok-file.file c.in_ok-file.ensures c.in_ok-content.ensures.asked)

@@ -2,14 +2,18 @@ use Rattle.std.proofs.Common.{[], refl, ap, subst, ◌∙◌, ◌≡◌, ◌-◌
 use Rattle.std.specs.Cmp.Lexicographic.{pointwise}
 use Rattle.indexmap.specs.IndexSet.{insert_all}
 use Rattle.jl_finder.specs.Scanning.{walked_in}
+use Rattle.jl_finder.specs.Asking.{faults_with}
 use Rattle.std.proofs.lemmas.Result.{err_from_is_err_and}
 use Rattle.jl_finder.proofs.Steps.{rose_from, err_retyped}
 use Rattle.jl_finder.proofs.Walks.{IsWalking, walk_starts, walk_over, walk_steps_so, walk_many_so, walk_ends_so}
+use Rattle.jl_finder.proofs.Asking.{calm_memory}
 use Rattle.jl_finder.proofs.walk.walk.Goals as goal
 
 pub loop-count-init : goal.loop-count-init
 loop-count-init g c = record {
   same_files = refl;
+  asked = refl;
+  exact = λ x. refl;
   counts = omega arith;
   placed = omega arith;
   few = inr refl;
@@ -65,6 +69,8 @@ pub loop-count-preserved : goal.loop-count-preserved
 loop-count-preserved g c = record {
   same_files = c.walk_folder.ensures.same_files ∙ c.loop-count.invariant.same_files;
   counts = omega (arith, c.walk_folder.ensures.counts, c.loop-count.invariant.counts);
+  asked = c.walk_folder.ensures.same_asked ∙ c.loop-count.invariant.asked;
+  exact = λ x. c.in_ok-walking.ensures.exact x ∙ c.loop-count.invariant.exact x;
   placed = omega (arith, c.loop-count.invariant.placed);
   few = inl (omega (arith, c.loop-count-test.true, c.if-count-eq-MOST_FOLDERS.false));
   walking = λ files e h.
@@ -81,3 +87,37 @@ returns-clause-same_files g c = c.loop-count.invariant.same_files
 
 pub returns-clause-counts : goal.returns-clause-counts
 returns-clause-counts g c = c.loop-count.invariant.counts
+
+pub returns-in_err-folder_at-clause-same_asked : goal.returns-in_err-folder_at-clause-same_asked
+returns-in_err-folder_at-clause-same_asked g c = c.loop-count.invariant.asked
+
+pub returns-in-None-clause-same_asked : goal.returns-in-None-clause-same_asked
+returns-in-None-clause-same_asked g c = c.loop-count.invariant.asked
+
+pub returns-then-count-eq-MOST_FOLDERS-clause-same_asked : goal.returns-then-count-eq-MOST_FOLDERS-clause-same_asked
+returns-then-count-eq-MOST_FOLDERS-clause-same_asked g c = c.loop-count.invariant.asked
+
+pub returns-clause-same_asked : goal.returns-clause-same_asked
+returns-clause-same_asked g c = c.loop-count.invariant.asked
+
+pub returns-in_err-walking-clause-same_asked : goal.returns-in_err-walking-clause-same_asked
+returns-in_err-walking-clause-same_asked g c = c.walk_folder.ensures.same_asked ∙ c.loop-count.invariant.asked
+
+pub returns-in_err-folder_at-clause-exact : goal.returns-in_err-folder_at-clause-exact
+returns-in_err-folder_at-clause-exact g c =
+    let p = err_from_is_err_and c.from_residual-in_err-folder_at.result c.from_residual-in_err-folder_at.ensures.1 in
+    rw (p.1, p.2) (λ x. c.loop-count.invariant.exact x)
+
+pub returns-then-count-eq-MOST_FOLDERS-clause-exact : goal.returns-then-count-eq-MOST_FOLDERS-clause-exact
+returns-then-count-eq-MOST_FOLDERS-clause-exact g c = λ x. c.loop-count.invariant.exact x
+
+pub returns-clause-exact : goal.returns-clause-exact
+returns-clause-exact g c = λ x. c.loop-count.invariant.exact x
+
+pub returns-in-None-clause-exact : goal.returns-in-None-clause-exact
+returns-in-None-clause-exact g c = λ x. calm_memory c.finished.result _ _ c.finished.ensures.no_fault (c.loop-count.invariant.exact x)
+
+pub returns-in_err-walking-clause-exact : goal.returns-in_err-walking-clause-exact
+returns-in_err-walking-clause-exact g c =
+    let p = err_from_is_err_and c.from_residual-in_err-walking.result c.from_residual-in_err-walking.ensures.1 in
+    rw (p.1, p.2) (λ x. c.in_err-walking.ensures.exact x ∙ ap (faults_with _) (c.loop-count.invariant.exact x))
