@@ -1,5 +1,5 @@
 -- There is always an end and a text, since a resolution always has an answer.
-use Rattle.std.proofs.Common.{◌≢◌, ℕ, List, [], ◌∷◌, refl, Result, Ok, Err}
+use Rattle.std.proofs.Common.{◌≢◌, ℕ, List, refl, Result, Ok, Err}
 use Rattle.std.specs.List.{concat}
 use Rattle.jl_prim.specs.declared.declaration.Observed.{Observed}
 use Rattle.jl_tree.specs.Files.{File}
@@ -15,7 +15,7 @@ use Rattle.jl_launch.specs.declared.end.LaunchEnd.{LaunchEnd}
 use Rattle.jl_launch.specs.declared.end.LaunchEnd.TheVariants.{Done, Words, Refused}
 use Rattle.jl_launch.specs.declared.words.Asked.{Asked}
 use Rattle.jl_launch.specs.Words.{words_of}
-use Rattle.jl_launch.specs.Text.{words_line, refusal_line, graph_lines}
+use Rattle.jl_launch.specs.Text.{words_lines, refusal_lines, graph_lines}
 use Rattle.jl_launch.specs.Launched.{IsRefused, IsPrinted, IsResolved, IsAnswer, boot}
 use Rattle.jl_launch.specs.Unique.{LaunchesAlways}
 
@@ -24,7 +24,7 @@ abbrev Some_end : (LaunchEnd → List (List ℕ) → Type 0) → Type 0
 Some_end P = (end : LaunchEnd) × (lines : List (List ℕ)) × P end lines
 
 refused : (f : ResolveFault) → Some_end (IsRefused (Resolve f))
-refused f = (Refused (Resolve f), refusal_line (Resolve f) ∷ [], (refl, refl))
+refused f = (Refused (Resolve f), refusal_lines (Resolve f), (refl, refl))
 
 printed : (r : Result Configuration ResolveFault) → r ≢ Err resolves.NoMemory → Some_end (IsPrinted r)
 printed (Ok g) told = (Done, graph_lines g, (refl, refl))
@@ -40,14 +40,14 @@ printed (Err resolves.NoMemory) told = absurd (told refl)
 
 module _ (resolves_always : ResolvesAlways) where
   resolved : (roots : List (List ℕ)) (found : Result (List Observed) FindFault) → Some_end (IsResolved roots found)
-  resolved roots (Err f) = (Refused (Find f), refusal_line (Find f) ∷ [], (refl, refl))
+  resolved roots (Err f) = (Refused (Find f), refusal_lines (Find f), (refl, refl))
   resolved roots (Ok found) =
       let r = resolves_always (boot found roots) in
       let p = printed r.0 r.2 in
       (p.0, p.1, (r.0, r.1, p.2))
 
   answered : (files : List File) (asked : Result Asked WordFault) → Some_end (IsAnswer files asked)
-  answered files (Err f) = (Words f, words_line f ∷ [], (refl, refl))
+  answered files (Err f) = (Words f, words_lines f, (refl, refl))
   answered files (Ok asked) = resolved asked.roots (observed files asked.elements)
 
   pub launched_always : LaunchesAlways

@@ -1,10 +1,11 @@
 -- How far lines are written.
-use Rattle.std.proofs.Common.{◌≡◌, ◌≤◌, ◌<◌, ◌+◌, ℕ, List, [], ◌∷◌, ◌++◌, length, take, drop, map, get_or, Option, None, Some, Ok, Err, refl, sym, ◌∙◌, ap, arith}
+use Rattle.std.proofs.Common.{◌≡◌, ◌≤◌, ◌<◌, ◌+◌, ℕ, zero, suc, List, [], ◌∷◌, ◌++◌, length, take, drop, map, get_or, Option, None, Some, Ok, Err, refl, sym, ◌∙◌, ap, arith}
 use Rattle.std.specs.List.{concat}
 use Rattle.std.proofs.lemmas.List.{append-nil, append_assoc, take-append-drop, map-append, take_more}
 use Rattle.std.proofs.lemmas.List.Folds.{concat-append}
 use Rattle.jl_tree.specs.declared.sink.SinkFault.{SinkFault}
-use Rattle.jl_tree.specs.Bytes.{Takes}
+use Rattle.jl_tree.specs.Bytes.{Takes, faults_written}
+use Rattle.jl_logic.specs.Counts.{raised}
 use Rattle.jl_launch.specs.Writing.{grown, Writes}
 
 -- the line but for the rest is written
@@ -63,3 +64,15 @@ module _ {X : Type 0} (f : X → List ℕ) where
       let whole : concat (map f xs) ≡ (done ++ w.0) ++ (w.1.0 ++ others) =
       text_rest xs (i + 1) ∙ ap (λ z. z ++ others) (up_to ∙ sym (append_assoc done w.0 w.1.0)) ∙ append_assoc (done ++ w.0) w.1.0 others in
       (done ++ w.0, (w.1.0 ++ others, whole), grown_more old mid new done w.0 m w.2)
+
+-- ---- counts of faults
+
+-- a write that takes something is no fault
+pub written_some : (piece : List ℕ) (count n : ℕ) → 0 < count → faults_written piece (Ok count) n ≡ n
+written_some piece zero n h = absurd (omega (arith, h))
+written_some piece (suc count) n h = refl
+
+-- one that takes nothing of a piece is one
+pub written_none : (piece : List ℕ) (n : ℕ) → 0 < length piece → faults_written piece (Ok 0) n ≡ raised n
+written_none [] n h = absurd (omega (arith, h))
+written_none (b ∷ bs) n h = refl

@@ -21,15 +21,15 @@ use Rattle.jl_launch.specs.Words.{words_of}
 use Rattle.jl_launch.specs.Base.{built_in_base}
 use Rattle.jl_finder.specs.Observed.{observed}
 use Rattle.jl_launch.specs.Writing.{grown}
-use Rattle.jl_launch.specs.Text.{words_line, refusal_line, graph_lines}
+use Rattle.jl_launch.specs.Text.{words_lines, refusal_lines, graph_lines}
 
 -- the end and the lines of a refused command
 abbrev pub IsRefused : Refusal → LaunchEnd → List (List ℕ) → Type 0
-IsRefused r end lines = (end ≡ Refused r) × (lines ≡ refusal_line r ∷ [])
+IsRefused r end lines = (end ≡ Refused r) × (lines ≡ refusal_lines r)
 
 -- the end and the lines of refused words
 abbrev pub IsRefusedWords : WordFault → LaunchEnd → List (List ℕ) → Type 0
-IsRefusedWords f end lines = (end ≡ Words f) × (lines ≡ words_line f ∷ [])
+IsRefusedWords f end lines = (end ≡ Words f) × (lines ≡ words_lines f)
 
 -- what a resolution is printed as
 abbrev pub IsPrinted : Result Configuration ResolveFault → LaunchEnd → List (List ℕ) → Type 0
@@ -72,11 +72,21 @@ Wrote end text before answered after =
 abbrev pub Ends : List (List ℕ) → List File → List ℕ → LaunchEnd → Option (List ℕ) → Type 0
 Ends words files before answered after = (end : LaunchEnd) × (text : List ℕ) × Launched words files end text × Wrote end text before answered after
 
--- What a launch did where nothing failed: it wrote the whole text, or there was no memory and it wrote nothing.
+-- What a launch did where nothing failed: it wrote the whole text, or memory ended, and a front of the text was written until then.
 abbrev pub Completes : List (List ℕ) → List File → List ℕ → LaunchEnd → Option (List ℕ) → Type 0
 Completes words files before answered after =
     ((text : List ℕ) × Launched words files answered text × Grew before text after)
-    ⊎ ((answered ≡ NoMemory) × Grew before [] after)
+    ⊎ ((answered ≡ NoMemory) × ((end : LaunchEnd) × (text : List ℕ) × Launched words files end text × ((front : List ℕ) × IsFront front text × Grew before front after)))
+
+-- How a launch ended, whatever was seen of what it wrote: as is launched, or it was stopped.
+abbrev pub EndsAs : List (List ℕ) → List File → LaunchEnd → Type 0
+EndsAs words files answered = (end : LaunchEnd) × (text : List ℕ) × Launched words files end text × ((answered ≡ end) ⊎ IsStop answered)
+
+-- How a launch with refused words ended, and what it wrote: that refusal and its line, or the sink failed or there was no memory, with a front of the line.
+abbrev pub RefusesWords : WordFault → Option (List ℕ) → LaunchEnd → Option (List ℕ) → Type 0
+RefusesWords f before answered after =
+    ((answered ≡ Words f) × (after ≡ grown before (concat (words_lines f))))
+    ⊎ (((answered ≡ SinkFault) ⊎ (answered ≡ NoMemory)) × ((front : List ℕ) × IsFront front (concat (words_lines f)) × (after ≡ grown before front)))
 
 -- an end that no stop is
 abbrev pub IsFinal : LaunchEnd → Type 0

@@ -14,5 +14,11 @@ asked_of (Ok (commands.Resolve elements add roots)) = Ok (record { elements = el
 asked_of (Ok (commands.Run words)) = Err NotBuilt
 asked_of (Ok (commands.Sample n bound)) = Err NotBuilt
 
+-- another command than `resolve`
+abbrev pub IsOther : Command → Type 0
+IsOther (commands.Resolve elements add roots) = ⊥
+IsOther (commands.Run words) = Unit {0}
+IsOther (commands.Sample n bound) = Unit {0}
+
 abbrev pub words_of : List (List ℕ) → Result Asked WordFault
 words_of words = asked_of (words_read words)

@@ -1,6 +1,6 @@
 //! How refusals are printed: the kind of a fault, and behind it its fields.
 
-ghost use Rattle.std.specs.Prelude.{◌≡◌, ◌++◌, codes, IfOk};
+ghost use Rattle.std.specs.Prelude.{◌≡◌, ◌∷◌, ◌++◌, [], Some, codes, is_some, IfOk, IsTrue};
 ghost use Rattle.std.specs.String.{string_bytes};
 ghost use Rattle.jl_config.specs.declared.fault.ResolveFault.TheVariants.{SamePackage, OwnPackage};
 ghost use Rattle.jl_launch.specs.Text as lines;
@@ -16,14 +16,16 @@ use std::alloc::{AllocError, Global};
 
 /// The line of refused words.
 pub fn words_line(alloc: Global, fault: &WordFault) -> Result<String, AllocError>
-    ensures { IfOk result (λ line. string_bytes line ≡ lines.words_line fault.now) }
+    requires { IsTrue (is_some (lines.word_text fault.now)) }
+    ensures { IfOk result (λ line. string_bytes line ∷ [] ≡ lines.words_lines fault.now) }
 {
     let text = word_text(alloc, fault)?;
     format!(in alloc; "words: {text}\n")
 }
 
 fn word_text(alloc: Global, fault: &WordFault) -> Result<String, AllocError>
-    ensures { IfOk result (λ text. string_bytes text ≡ lines.word_text fault.now) }
+    requires { IsTrue (is_some (lines.word_text fault.now)) }
+    ensures { IfOk result (λ text. Some (string_bytes text) ≡ lines.word_text fault.now) }
 {
     match fault {
         WordFault::NoCommand => String::from_str(alloc, "NoCommand"),
@@ -33,20 +35,22 @@ fn word_text(alloc: Global, fault: &WordFault) -> Result<String, AllocError>
         WordFault::BadNumber(at) => format!(in alloc; "BadNumber {at}"),
         WordFault::BadTarget(at) => format!(in alloc; "BadTarget {at}"),
         WordFault::NotBuilt => String::from_str(alloc, "NotBuilt"),
-        WordFault::NoMemory => String::from_str(alloc, "NoMemory"),
+        WordFault::NoMemory => unreachable!(),
     }
 }
 
 /// The line of a refused command.
 pub fn refusal_line(alloc: Global, refusal: &Refusal) -> Result<String, AllocError>
-    ensures { IfOk result (λ line. string_bytes line ≡ lines.refusal_line refusal.now) }
+    requires { IsTrue (is_some (lines.refusal_text refusal.now)) }
+    ensures { IfOk result (λ line. string_bytes line ∷ [] ≡ lines.refusal_lines refusal.now) }
 {
     let text = refusal_text(alloc, refusal)?;
     format!(in alloc; "refused: {text}\n")
 }
 
 fn refusal_text(alloc: Global, refusal: &Refusal) -> Result<String, AllocError>
-    ensures { IfOk result (λ text. string_bytes text ≡ lines.refusal_text refusal.now) }
+    requires { IsTrue (is_some (lines.refusal_text refusal.now)) }
+    ensures { IfOk result (λ text. Some (string_bytes text) ≡ lines.refusal_text refusal.now) }
 {
     match refusal {
         Refusal::Find(fault) => {
@@ -61,7 +65,8 @@ fn refusal_text(alloc: Global, refusal: &Refusal) -> Result<String, AllocError>
 }
 
 fn find_text(alloc: Global, fault: &FindFault) -> Result<String, AllocError>
-    ensures { IfOk result (λ text. string_bytes text ≡ lines.find_text fault.now) }
+    requires { IsTrue (is_some (lines.find_text fault.now)) }
+    ensures { IfOk result (λ text. Some (string_bytes text) ≡ lines.find_text fault.now) }
 {
     match fault {
         FindFault::Info(path, fault) => {
@@ -73,13 +78,14 @@ fn find_text(alloc: Global, fault: &FindFault) -> Result<String, AllocError>
         FindFault::TopLevelClass(path) => format!(in alloc; "TopLevelClass {path}"),
         FindFault::TooLarge(path, length) => format!(in alloc; "TooLarge {path} {length}"),
         FindFault::TooMany => String::from_str(alloc, "TooMany"),
-        FindFault::ReadFault => String::from_str(alloc, "ReadFault"),
-        FindFault::NoMemory => String::from_str(alloc, "NoMemory"),
+        FindFault::ReadFault => unreachable!(),
+        FindFault::NoMemory => unreachable!(),
     }
 }
 
 fn info_text(alloc: Global, fault: &InfoFault) -> Result<String, AllocError>
-    ensures { IfOk result (λ text. string_bytes text ≡ lines.info_text fault.now) }
+    requires { IsTrue (is_some (lines.info_text fault.now)) }
+    ensures { IfOk result (λ text. Some (string_bytes text) ≡ lines.info_text fault.now) }
 {
     match fault {
         InfoFault::BadMagic => String::from_str(alloc, "BadMagic"),
@@ -99,12 +105,13 @@ fn info_text(alloc: Global, fault: &InfoFault) -> Result<String, AllocError>
             format!(in alloc; "PackageMissing {name}")
         }
         InfoFault::Trailing => String::from_str(alloc, "Trailing"),
-        InfoFault::NoMemory => String::from_str(alloc, "NoMemory"),
+        InfoFault::NoMemory => unreachable!(),
     }
 }
 
 fn resolve_text(alloc: Global, fault: &ResolveFault) -> Result<String, AllocError>
-    ensures { IfOk result (λ text. string_bytes text ≡ lines.resolve_text fault.now) }
+    requires { IsTrue (is_some (lines.resolve_text fault.now)) }
+    ensures { IfOk result (λ text. Some (string_bytes text) ≡ lines.resolve_text fault.now) }
 {
     match fault {
         ResolveFault::NoParents => String::from_str(alloc, "NoParents"),
@@ -130,7 +137,7 @@ fn resolve_text(alloc: Global, fault: &ResolveFault) -> Result<String, AllocErro
             let service = dotted(alloc, service.as_str())?;
             format!(in alloc; "ServicePackage {module} {service}")
         }
-        ResolveFault::NoMemory => String::from_str(alloc, "NoMemory"),
+        ResolveFault::NoMemory => unreachable!(),
     }
 }
 
@@ -141,7 +148,7 @@ fn same_package_text(
     one: &Name,
     other: &Name,
 ) -> Result<String, AllocError>
-    ensures { IfOk result (λ text. string_bytes text ≡ lines.resolve_text (SamePackage reader.now held.now one.now other.now)) }
+    ensures { IfOk result (λ text. Some (string_bytes text) ≡ lines.resolve_text (SamePackage reader.now held.now one.now other.now)) }
 {
     let package = dotted(alloc, held.as_str())?;
     let of_package = format!(in alloc; "SamePackage {reader} {package}")?;
@@ -160,7 +167,7 @@ fn own_package_text(
     held: &Name,
     other: &Name,
 ) -> Result<String, AllocError>
-    ensures { IfOk result (λ text. string_bytes text ≡ lines.resolve_text (OwnPackage reader.now held.now other.now)) }
+    ensures { IfOk result (λ text. Some (string_bytes text) ≡ lines.resolve_text (OwnPackage reader.now held.now other.now)) }
 {
     let package = dotted(alloc, held.as_str())?;
     let of_package = format!(in alloc; "OwnPackage {reader} {package}")?;

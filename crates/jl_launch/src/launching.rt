@@ -1,6 +1,6 @@
 //! The top call.
 
-ghost use Rattle.std.specs.Prelude.{◌≡◌, ◌≤◌, ◌<◌, ◌∷◌, [], map, Ok, Err, IfSome, IfOk, IsErrOf};
+ghost use Rattle.std.specs.Prelude.{◌≡◌, ◌≤◌, ◌<◌, ◌∷◌, [], map, ℕ, List, Some, is_some, Ok, Err, IfSome, IfOk, IfErr, IsErrOf, IsTrue, MatchResult};
 ghost use Rattle.std.specs.String.{string_bytes};
 ghost use Rattle.jl_logic.specs.Counts.{Rose, last_count};
 ghost use Rattle.jl_logic.specs.Order.{RisesBy};
@@ -8,7 +8,13 @@ ghost use Rattle.jl_config.specs.Orders.{read_cmp};
 ghost use Rattle.jl_words.specs.declared.fault.WordFault.{WordFault as Refused};
 ghost use Rattle.jl_launch.specs.Words.{words_of};
 ghost use Rattle.jl_finder.specs.Observed.{observed};
-ghost use Rattle.jl_launch.specs.Launched.{Ends, Completes, IsLaunched, IsResolved, IsPrinted, IsRefused, IsRefusedWords, IsFinal, Comes};
+ghost use Rattle.jl_launch.specs.Statuses.{IsOwn, tree_faults, sink_faults, stop_faults};
+ghost use Rattle.jl_launch.specs.Text.{word_text, refusal_text};
+ghost use Rattle.jl_launch.specs.declared.words.Asked.{Asked as Wanted};
+ghost use Rattle.jl_finder.specs.Asking.{AsksUpTo, places_of};
+ghost use Rattle.std.specs.List.{flat_map};
+ghost use Rattle.jl_tree.specs.Files.{File};
+ghost use Rattle.jl_launch.specs.Launched.{EndsAs, RefusesWords, Ends, Completes, IsLaunched, IsResolved, IsPrinted, IsRefused, IsRefusedWords, IsFinal, Comes};
 
 use crate::base::base_alone;
 use crate::end::{LaunchEnd, Refusal};
@@ -83,9 +89,22 @@ pub fn launch<T: Tree, S: Sink>(
     ensures read_fault { result ≡ LaunchEnd.ReadFault → Rose (T.faults tree.old) (T.faults tree.new) }
     ensures sink_fault { result ≡ LaunchEnd.SinkFault → Rose (S.faults out.old) (S.faults out.new) }
     // Where the words are refused no file is asked for, and the tree did not fail.
-    ensures unasked { (f : Refused) → words_of (map string_bytes words.now) ≡ Err f → (T.asked tree.new ≡ T.asked tree.old) × (T.faults tree.new ≡ T.faults tree.old) }
+    ensures unasked { (f : Refused) → words_of (map string_bytes words.now) ≡ Err f → tree.new ≡ tree.old }
     ensures never_read { (f : Refused) → words_of (map string_bytes words.now) ≡ Err f → result ≡ LaunchEnd.ReadFault → ⊥ }
-    // Where nothing failed, the end and the whole text are what is launched, or there was no memory and no text.
+    // Refused words end so whatever the tree and the sink tell, unless the sink failed or there was no memory.
+    ensures refused { (f : Refused) → words_of (map string_bytes words.now) ≡ Err f → RefusesWords f (S.taken out.old) result (S.taken out.new) }
+    // The end is what is launched, or a stop, also where the sink tells nothing.
+    ensures ended { IfSome (T.files tree.old) (λ files. EndsAs (map string_bytes words.now) files result) }
+    // What is refused is a fault that is printed.
+    ensures own { IsOwn result }
+    // A fault of the tree or the sink ends the launch as itself, and no call follows it.
+    ensures tree_exact { IsTrue T.counts_exactly → T.faults tree.new ≡ tree_faults result (T.faults tree.old) }
+    ensures sink_exact { IsTrue S.counts_exactly → S.faults out.new ≡ sink_faults result (S.faults out.old) }
+    ensures unwritten { result ≡ LaunchEnd.ReadFault → out.new ≡ out.old }
+    ensures no_memory { result ≡ LaunchEnd.NoMemory → out.new ≡ out.old }
+    // The declaration files of the places of modules are asked for, each once for an element, in their order.
+    ensures asks { (files : List File) (a : Wanted) → T.files tree.old ≡ Some files → words_of (map string_bytes words.now) ≡ Ok a → AsksUpTo (T.asked tree.old) (flat_map (places_of files) a.elements) (T.asked tree.new) }
+    // Where nothing failed, the end and the whole text are what is launched, or memory ended and a front of the text was written.
     ensures complete { T.faults tree.new ≡ T.faults tree.old → T.faults tree.old < last_count
         → S.faults out.new ≡ S.faults out.old → S.faults out.old < last_count
         → IfSome (T.files tree.old) (λ files. IfSome (S.taken out.old) (λ before.
@@ -108,6 +127,9 @@ fn write_outcome<S: Sink>(outcome: Outcome, out: &mut S) -> LaunchEnd
     ensures never_memory { result ≡ LaunchEnd.NoMemory → ⊥ }
     ensures counts { S.faults out.old ≤ S.faults out.new }
     ensures sink_fault { result ≡ LaunchEnd.SinkFault → Rose (S.faults out.old) (S.faults out.new) }
+    ensures exact { IsTrue S.counts_exactly → S.faults out.new ≡ sink_faults result (S.faults out.old) }
+    ensures own { IsOwn outcome.end → IsOwn result }
+    ensures same_tree { (n : ℕ) → tree_faults result n ≡ n }
 {
     match write_lines(out, outcome.lines.as_slice()) {
         Ok(()) => outcome.end,
@@ -120,8 +142,12 @@ fn decide<T: Tree>(alloc: Global, words: &[String], tree: &mut T) -> Result<Outc
     ensures decided { IfSome (T.files tree.old) (λ files. IfOk result (λ o. IsLaunched (map string_bytes words.now) files o.end (map string_bytes o.lines.items))) }
     ensures ended { IfOk result (λ o. IsFinal o.end) }
     ensures read_fault { IsErrOf result Stop.ReadFault → Rose (T.faults tree.old) (T.faults tree.new) }
-    ensures unasked { (f : Refused) → words_of (map string_bytes words.now) ≡ Err f → (T.asked tree.new ≡ T.asked tree.old) × (T.faults tree.new ≡ T.faults tree.old) }
+    ensures unasked { (f : Refused) → words_of (map string_bytes words.now) ≡ Err f → tree.new ≡ tree.old }
     ensures never_read { (f : Refused) → words_of (map string_bytes words.now) ≡ Err f → IsErrOf result Stop.ReadFault → ⊥ }
+    ensures refused { (f : Refused) → words_of (map string_bytes words.now) ≡ Err f → IfOk result (λ o. IsRefusedWords f o.end (map string_bytes o.lines.items)) }
+    ensures own { IfOk result (λ o. IsOwn o.end) }
+    ensures exact { IsTrue T.counts_exactly → MatchResult result (λ _. T.faults tree.new ≡ T.faults tree.old) (λ e. T.faults tree.new ≡ stop_faults e (T.faults tree.old)) }
+    ensures asks { (files : List File) (a : Wanted) → T.files tree.old ≡ Some files → words_of (map string_bytes words.now) ≡ Ok a → AsksUpTo (T.asked tree.old) (flat_map (places_of files) a.elements) (T.asked tree.new) }
 {
     match asked_by(alloc, words) {
         Ok(asked) => answer(alloc, &asked, tree),
@@ -131,9 +157,11 @@ fn decide<T: Tree>(alloc: Global, words: &[String], tree: &mut T) -> Result<Outc
 }
 
 fn refuse_words(alloc: Global, fault: WordFault) -> Result<Outcome, Stop>
+    requires { IsTrue (is_some (word_text fault)) }
     ensures refused { IfOk result (λ o. IsRefusedWords fault o.end (map string_bytes o.lines.items)) }
     ensures ended { IfOk result (λ o. IsFinal o.end) }
-    ensures memory { IsErrOf result Stop.ReadFault → ⊥ }
+    ensures memory { IfErr result (λ e. e ≡ Stop.NoMemory) }
+    ensures own { IfOk result (λ o. IsOwn o.end) }
 {
     let line = words_line(alloc, &fault)?;
     Ok(Outcome {
@@ -143,9 +171,11 @@ fn refuse_words(alloc: Global, fault: WordFault) -> Result<Outcome, Stop>
 }
 
 fn refuse(alloc: Global, refusal: Refusal) -> Result<Outcome, Stop>
+    requires { IsTrue (is_some (refusal_text refusal)) }
     ensures refused { IfOk result (λ o. IsRefused refusal o.end (map string_bytes o.lines.items)) }
     ensures ended { IfOk result (λ o. IsFinal o.end) }
-    ensures memory { IsErrOf result Stop.ReadFault → ⊥ }
+    ensures memory { IfErr result (λ e. e ≡ Stop.NoMemory) }
+    ensures own { IfOk result (λ o. IsOwn o.end) }
 {
     let line = refusal_line(alloc, &refusal)?;
     Ok(Outcome {
@@ -167,6 +197,9 @@ fn answer<T: Tree>(alloc: Global, asked: &Asked, tree: &mut T) -> Result<Outcome
     ensures answered { IfSome (T.files tree.old) (λ files. IfOk result (λ o. IsResolved asked.now.roots (observed files asked.now.elements) o.end (map string_bytes o.lines.items))) }
     ensures ended { IfOk result (λ o. IsFinal o.end) }
     ensures read_fault { IsErrOf result Stop.ReadFault → Rose (T.faults tree.old) (T.faults tree.new) }
+    ensures own { IfOk result (λ o. IsOwn o.end) }
+    ensures exact { IsTrue T.counts_exactly → MatchResult result (λ _. T.faults tree.new ≡ T.faults tree.old) (λ e. T.faults tree.new ≡ stop_faults e (T.faults tree.old)) }
+    ensures asks { (files : List File) → T.files tree.old ≡ Some files → AsksUpTo (T.asked tree.old) (flat_map (places_of files) asked.now.elements) (T.asked tree.new) }
 {
     match find_all(alloc, tree, asked.elements.as_slice()) {
         Ok(found) => answer_over(alloc, found, asked.roots.as_slice()),
@@ -180,7 +213,8 @@ fn answer<T: Tree>(alloc: Global, asked: &Asked, tree: &mut T) -> Result<Outcome
 fn answer_over(alloc: Global, after: Found, roots: &[Name]) -> Result<Outcome, Stop>
     ensures resolved { IfOk result (λ o. IsResolved roots.now (Ok after.modules) o.end (map string_bytes o.lines.items)) }
     ensures ended { IfOk result (λ o. IsFinal o.end) }
-    ensures memory { IsErrOf result Stop.ReadFault → ⊥ }
+    ensures memory { IfErr result (λ e. e ≡ Stop.NoMemory) }
+    ensures own { IfOk result (λ o. IsOwn o.end) }
 {
     let before = base_alone(alloc)?;
     match resolve(alloc, &[], &before, &[ConfigId(0)], &after, roots, true) {
@@ -194,7 +228,8 @@ fn print_graph(alloc: Global, graph: &Configuration) -> Result<Outcome, Stop>
     requires { RisesBy read_cmp graph.now.reads }
     ensures printed { IfOk result (λ o. IsPrinted (Ok graph.now) o.end (map string_bytes o.lines.items)) }
     ensures ended { IfOk result (λ o. IsFinal o.end) }
-    ensures memory { IsErrOf result Stop.ReadFault → ⊥ }
+    ensures memory { IfErr result (λ e. e ≡ Stop.NoMemory) }
+    ensures own { IfOk result (λ o. IsOwn o.end) }
 {
     Ok(Outcome {
         end: LaunchEnd::Done,

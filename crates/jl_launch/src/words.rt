@@ -1,10 +1,11 @@
 //! What the words of a command line ask of `resolve`.
 
-ghost use Rattle.std.specs.Prelude.{◌≡◌, ◌++◌, map, IfOk};
+ghost use Rattle.std.specs.Prelude.{◌≡◌, ◌++◌, map, Ok, Err, IfOk};
 ghost use Rattle.std.specs.String.{string_bytes};
 ghost use Rattle.jl_logic.specs.Answers.{Gives};
 ghost use Rattle.jl_words.specs.Reading.{told};
-ghost use Rattle.jl_launch.specs.Words.{words_of};
+ghost use Rattle.jl_launch.specs.Words as wanted;
+ghost use Rattle.jl_launch.specs.Words.{words_of, IsOther};
 
 use jl_prim::{CopyEnd, Items, Name};
 use jl_words::{Command, WordFault, read_words};
@@ -22,7 +23,15 @@ pub struct Asked {
 pub fn asked_by(alloc: Global, words: &[String]) -> Result<Asked, WordFault>
     ensures { Gives told (λ asked. asked) result (words_of (map string_bytes words.now)) }
 {
-    match read_words(alloc, words)? {
+    asked_of(read_words(alloc, words)?)
+}
+
+/// What a command asks. No command but `resolve` takes memory.
+fn asked_of(command: Command) -> Result<Asked, WordFault>
+    ensures asks { Gives told (λ asked. asked) result (wanted.asked_of (Ok command)) }
+    ensures others { IsOther command → result ≡ Err WordFault.NotBuilt }
+{
+    match command {
         Command::Resolve {
             elements,
             add,

@@ -1,9 +1,9 @@
 //! Writing lines to a sink.
 
-ghost use Rattle.std.specs.Prelude.{◌≤◌, map, OnErr};
+ghost use Rattle.std.specs.Prelude.{◌≡◌, ◌≤◌, map, OnErr, IsTrue, MatchResult};
 ghost use Rattle.std.specs.List.{concat};
 ghost use Rattle.std.specs.String.{string_bytes};
-ghost use Rattle.jl_logic.specs.Counts.{Rose};
+ghost use Rattle.jl_logic.specs.Counts.{Rose, raised};
 ghost use Rattle.jl_launch.specs.Writing.{Writes};
 
 use jl_tree::{Sink, SinkFault};
@@ -13,6 +13,7 @@ pub fn write_line<S: Sink>(out: &mut S, line: &[u8]) -> Result<(), SinkFault>
     ensures writes { Writes (S.taken out.old) line.now result (S.taken out.new) }
     ensures counts { S.faults out.old ≤ S.faults out.new }
     ensures failed { OnErr result (Rose (S.faults out.old) (S.faults out.new)) }
+    ensures exact { IsTrue S.counts_exactly → MatchResult result (λ _. S.faults out.new ≡ S.faults out.old) (λ _. S.faults out.new ≡ raised (S.faults out.old)) }
 {
     let mut rest = line;
     while !rest.is_empty() {
@@ -33,6 +34,7 @@ pub fn write_lines<S: Sink>(out: &mut S, lines: &[String]) -> Result<(), SinkFau
     ensures writes { Writes (S.taken out.old) (concat (map string_bytes lines.now)) result (S.taken out.new) }
     ensures counts { S.faults out.old ≤ S.faults out.new }
     ensures failed { OnErr result (Rose (S.faults out.old) (S.faults out.new)) }
+    ensures exact { IsTrue S.counts_exactly → MatchResult result (λ _. S.faults out.new ≡ S.faults out.old) (λ _. S.faults out.new ≡ raised (S.faults out.old)) }
 {
     for line in lines {
         match write_line(out, line.as_bytes()) {
