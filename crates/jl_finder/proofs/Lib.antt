@@ -7,4 +7,5 @@ pub mod Scans
 pub mod Firsts
 pub mod Elements
 pub mod Asking
+pub mod Laws
 mod Rows

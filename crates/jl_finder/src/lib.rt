@@ -5,6 +5,7 @@ mod counts;
 mod directory;
 mod fault;
 mod finding;
+mod law;
 mod listing;
 mod module;
 mod names;
@@ -12,6 +13,7 @@ mod walk;
 
 pub use fault::FindFault;
 pub use finding::find_all;
+pub use law::finds_by_places;
 
 #[cfg(test)]
 mod tests;
