@@ -1,10 +1,16 @@
 -- Worked rows of the definitions.
-use Rattle.std.proofs.Common.{◌≡◌, ℕ, List, [], ◌∷◌, Ok, Err, true, false, codes, refl}
+use Rattle.std.proofs.Common.{◌≡◌, ℕ, List, [], ◌∷◌, Ok, Err, true, false, codes, refl, nat_lt, length}
 use Rattle.jl_tree.specs.Files.{File}
 use Rattle.jl_finder.specs.declared.fault.FindFault.TheVariants as finds
 use Rattle.jl_finder.specs.Paths.{is_archive, is_walked, fronts, put_name, in_order}
 use Rattle.jl_finder.specs.Folders.{entries_in_order, put_entry}
-use Rattle.jl_finder.specs.Observed.{with_folders, with_module, observed, scan_elements, scan_entries, scan_listed, scan_module, first_of_each}
+use Rattle.jl_finder.specs.Observed.{with_folders, with_module, observed, scan_elements, scan_entries, scan_listed, scan_module, first_of_each, scan_folder, most_bytes}
+use Rattle.jl_prim.specs.declared.declaration.Declaration.{Declaration}
+use Rattle.jl_modinfo.specs.Reading.{info_of}
+use Rattle.jl_logic.specs.Order.{is_text}
+use Rattle.std.specs.List.{flat_map}
+use Rattle.jl_finder.specs.Asking.{places_of}
+use Rattle.jl_finder.proofs.Members.{is_name}
 
 -- ---- limits
 
@@ -51,3 +57,35 @@ an-archive-inside = refl
 class-beside : observed (empty-file (codes "m/X.class") ∷ empty-file (codes "m/module-info.class") ∷ []) (codes "m" ∷ []) ≡ Err (finds.TopLevelClass (codes "m/X.class"))
 unfolding scan_elements scan_listed scan_module entries_in_order put_entry fronts put_name in_order
 class-beside = refl
+
+-- ---- modules that are found, where some bytes declare a module
+
+module _ (bytes : List ℕ) (d : Declaration) (small : nat_lt most_bytes (length bytes) ≡ false) (declares : info_of bytes [] ≡ Ok d) where
+  abbrev info : List ℕ → File
+  info path = record { path = path; bytes = bytes }
+
+  one-module : observed (info (codes "m/a/module-info.class") ∷ []) (codes "m" ∷ []) ≡ Ok (record { declaration = d; place = codes "m/a" } ∷ [])
+  unfolding scan_elements scan_listed scan_entries scan_folder scan_module first_of_each entries_in_order put_entry fronts put_name in_order
+  one-module = rw (small, declares) refl
+
+  same-name : is_text d.name d.name ≡ true
+  same-name = is_name d.name d.name refl
+
+  one-hidden : observed (info (codes "m/a/module-info.class") ∷ info (codes "n/b/module-info.class") ∷ []) (codes "m" ∷ codes "n" ∷ []) ≡ Ok (record { declaration = d; place = codes "m/a" } ∷ [])
+  unfolding scan_elements scan_listed scan_entries scan_folder scan_module first_of_each entries_in_order put_entry fronts put_name in_order
+  one-hidden = rw (small, declares, small, declares, same-name) refl
+
+  two-in-directory : observed (info (codes "m/p/module-info.class") ∷ info (codes "m/q/module-info.class") ∷ []) (codes "m" ∷ []) ≡ Err (finds.TwoInDirectory (codes "m") d.name)
+  unfolding scan_elements scan_listed scan_entries scan_folder scan_module first_of_each entries_in_order put_entry fronts put_name in_order
+  two-in-directory = rw (small, declares, same-name) refl
+
+  element-itself : observed (info (codes "m/a/module-info.class") ∷ []) (codes "m/a" ∷ []) ≡ Ok (record { declaration = d; place = codes "m/a" } ∷ [])
+  unfolding scan_elements scan_listed scan_entries scan_folder scan_module first_of_each entries_in_order put_entry fronts put_name in_order
+  element-itself = rw (small, declares) refl
+
+-- ---- what is asked for
+
+places-in-order : flat_map (places_of (empty-file (codes "m/b/module-info.class") ∷ empty-file (codes "m/c/X.class") ∷ empty-file (codes "m/a/module-info.class") ∷ [])) (codes "m" ∷ codes "m/b" ∷ codes "n" ∷ [])
+    ≡ codes "m/a" ∷ codes "m/b" ∷ codes "m/b" ∷ []
+unfolding entries_in_order put_entry
+places-in-order = refl

@@ -14,6 +14,3 @@ mod walk;
 pub use fault::FindFault;
 pub use finding::find_all;
 pub use law::finds_by_places;
-
-#[cfg(test)]
-mod tests;

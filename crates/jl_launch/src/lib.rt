@@ -13,10 +13,3 @@ mod writing;
 pub use end::{LaunchEnd, Refusal, status_of};
 pub use launching::launch;
 pub use law::{launches_always, launches_once};
-
-#[cfg(test)]
-mod outside_tests;
-#[cfg(test)]
-mod sample_modules;
-#[cfg(test)]
-mod tests;

@@ -9,3 +9,4 @@ mod trees;
 pub use bytes::{bytes_in, bytes_of_lines, edited, edited_in};
 pub use declarations::{declaration, file_of, module_file};
 pub use names::{names_in, words_in};
+pub use trees::{files_in, info_file, numbers, plain_file, same, tree_in, tree_of};

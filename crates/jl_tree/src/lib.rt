@@ -18,6 +18,3 @@ pub use mem_tree::{MemTree, are_of_one_tree};
 pub use sink::{Sink, SinkFault};
 pub use stdout_sink::StdoutSink;
 pub use tree::{Tree, TreeFault};
-
-#[cfg(test)]
-mod tests;

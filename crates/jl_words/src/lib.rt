@@ -14,6 +14,3 @@ mod texts;
 pub use command::{Added, Command, RunWords};
 pub use fault::WordFault;
 pub use reading::read_words;
-
-#[cfg(test)]
-mod tests;
