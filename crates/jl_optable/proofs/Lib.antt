@@ -1,3 +1,4 @@
+pub mod AttributeRows
 pub mod Found
 pub mod Order
 pub mod Rows
