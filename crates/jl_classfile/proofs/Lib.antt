@@ -2,4 +2,5 @@ pub mod AttributeLaws
 pub mod Faults
 pub mod FrontLaws
 pub mod Loops
+pub mod Single
 pub mod Slots

@@ -26,7 +26,7 @@ by_test : {K : Type 0} (is : K → Bool) (k : K) (b : Bool) (content : List ℕ)
 by_test is k true content cs ds e h = rw (e, h) refl
 by_test is k false content cs ds e h = rw (e, h) refl
 
-filtered : (pool : List Entry) (is_read : List ℕ → Bool) (a : Attribute) (others : List Attribute) (b : Bool) → is_some_that is_read (text_of pool a.index) ≡ b
+pub filtered : (pool : List Entry) (is_read : List ℕ → Bool) (a : Attribute) (others : List Attribute) (b : Bool) → is_some_that is_read (text_of pool a.index) ≡ b
     → contents pool is_read (a ∷ others) ≡ cond b (a.content ∷ contents pool is_read others) (contents pool is_read others)
 filtered pool is_read a others true e = rw e refl
 filtered pool is_read a others false e = rw e refl

@@ -1,5 +1,5 @@
 -- Reading attributes, of which each form that is read may stand once (JVMS 4.7).
-use Rattle.std.specs.Prelude.{◌≡◌, ℕ, List, [], ◌∷◌, ◌++◌, Option, None, Some, Result, Ok, Err, Bool, ⊤, MatchOption, if◌then◌else◌}
+use Rattle.std.specs.Prelude.{◌≡◌, ℕ, List, [], ◌∷◌, ◌++◌, Option, None, Some, Result, Ok, Err, Bool, false, ⊤, MatchOption, if◌then◌else◌}
 use Rattle.jl_reading.specs.Reading.{◌>>=◌, number_at, steps_at}
 use Rattle.jl_pool.specs.declared.entry.Entry.{Entry}
 use Rattle.jl_pool.specs.Pool.{text_of}
@@ -65,3 +65,18 @@ or_else (Some w) other = Some w
 abbrev pub first_that : {V W : Type 0} → (V → Option W) → List V → Option W
 first_that pick [] = None
 first_that pick (v ∷ vs) = or_else (pick v) (first_that pick vs)
+
+-- ---- sites where attributes of one name alone are read
+
+-- the form of that name
+abbrev pub alone : {K : Type 0} → (List ℕ → Bool) → K → List ℕ → Option K
+alone is_read form name = if is_read name then Some form else None
+
+-- there may be one, and only where there may be any
+abbrev pub may_begin : {V K : Type 0} → Bool → List V → K → Bool
+may_begin may [] form = may
+may_begin may (v ∷ vs) form = false
+
+abbrev pub first_of : {V : Type 0} → List V → Option V
+first_of [] = None
+first_of (v ∷ vs) = Some v

@@ -3,7 +3,7 @@
 
 ghost use Rattle.std.specs.Prelude.{◌≡◌, None};
 ghost use Rattle.jl_logic.specs.Answers.{Gives};
-ghost use Rattle.jl_classfile.specs.Attributes.{attribute_at, by_form, read_at, passed_at};
+ghost use Rattle.jl_classfile.specs.Attributes.{attribute_at, first_of, read_at, passed_at};
 ghost use Rattle.jl_classfile.specs.Attributes as reading;
 ghost use Rattle.jl_classfile.specs.Places.{Reads, content_at, inside};
 
@@ -70,6 +70,18 @@ pub fn attributes_at<'a, K: Copy, V: Drop, F: Fault, R: AttributeReader<K, V, F>
         next = after;
     }
     Ok((done, next))
+}
+
+/// The first of some values, where there is any.
+pub fn first<V: Drop>(values: Vec<V>) -> Option<V>
+    ensures { result ≡ first_of values.items }
+{
+    let mut values = values;
+    if values.is_empty() {
+        None
+    } else {
+        Some(values.swap_remove(0))
+    }
 }
 
 /// The attribute at a place, behind what was read so far.

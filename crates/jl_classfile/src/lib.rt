@@ -6,6 +6,6 @@ mod attributes;
 mod place;
 mod version;
 
-pub use attributes::{AttributeReader, attributes_at, content};
+pub use attributes::{AttributeReader, attributes_at, content, first};
 pub use place::Place;
 pub use version::{FileFault, front, is_version};

@@ -96,6 +96,7 @@ an_int_field = record { few = omega arith; base = refl; stands = record { there 
 
 no_void_field : IsDescriptor (codes "V") (Field (record { dims = 0; base = Prim 86 })) → ⊥
 no_void_field d = let b : false ≡ true = d.base in cc
+
 -- the spelling of (I)V
 spelled_method : IsDescriptor (codes "(I)V") (Method (int ∷ []) None)
 spelled_method = record {
