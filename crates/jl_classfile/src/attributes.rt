@@ -1,7 +1,7 @@
 //! Attributes (JVMS 4.7): those of some forms are read, each of which may stand once, and all others are
 //! passed over.
 
-ghost use Rattle.std.specs.Prelude.{◌≡◌, None};
+ghost use Rattle.std.specs.Prelude.{◌≡◌, None, Some, IfErr, IsSome};
 ghost use Rattle.jl_logic.specs.Answers.{Gives};
 ghost use Rattle.jl_classfile.specs.Attributes.{attribute_at, first_of, read_at, passed_at};
 ghost use Rattle.jl_classfile.specs.Attributes as reading;
@@ -17,7 +17,7 @@ use std::alloc::Global;
 ///
 /// `K` is the forms of those that are read, and `V` what one of them means.
 pub trait AttributeReader<K, V, F: Fault>: Sized {
-    ghost use Rattle.std.specs.Prelude.{◌≡◌, None};
+    ghost use Rattle.std.specs.Prelude.{◌≡◌, None, Some};
     ghost use Rattle.jl_logic.specs.Answers.{Gives};
     ghost use Rattle.jl_classfile.specs.Attributes.{Reader, IsFault};
 
@@ -31,17 +31,17 @@ pub trait AttributeReader<K, V, F: Fault>: Sized {
     fn may_stand(&self, done: &[V], form: K) -> bool
         ensures { result ≡ (reader self.now).may_stand done.now form };
 
-    /// The index of a name at this place names no text.
+    /// The index of a name at this place names no text. It takes no memory.
     fn unnamed(&self, place: usize) -> F
-        ensures { IsFault F.told result ((reader self.now).unnamed place) };
+        ensures { F.told result ≡ Some ((reader self.now).unnamed place) };
 
     /// The attribute at this place may not stand there.
     fn refused(&self, alloc: Global, place: usize, form: K) -> F
         ensures { IsFault F.told result ((reader self.now).refused place form) };
 
-    /// In the attribute at the first place, the unit at the second is not whole.
+    /// In the attribute at the first place, the unit at the second is not whole. It takes no memory.
     fn cut(&self, place: usize, at: usize) -> F
-        ensures { IsFault F.told result ((reader self.now).cut place at) };
+        ensures { F.told result ≡ Some ((reader self.now).cut place at) };
 
     /// There was no memory for what was read.
     fn no_memory(&self) -> F
@@ -152,7 +152,9 @@ pub fn content<'a, K: Copy, V: Drop, F: Fault, R: AttributeReader<K, V, F>>(
     attribute: usize,
     place: Place<'a>,
 ) -> Result<(Place<'a>, Place<'a>), F>
-    ensures { Reads F.told inside place.entry result (content_at ((R.reader reader.now).cut attribute)) }
+    ensures exact { Reads F.told inside place.entry result (content_at ((R.reader reader.now).cut attribute)) }
+    // The fault is told: want of memory is no answer.
+    ensures fault { IfErr result (λ e. IsSome (F.told e)) }
 {
     let Some((count, start)) = place.next_u32() else {
         return Err(reader.cut(attribute, place.at));
