@@ -1,8 +1,8 @@
 -- The row of an opcode stands in the table at the opcode's place.
-use Rattle.std.proofs.Common.{◌≡◌, ℕ, zero, suc, ◌+◌, ◌-◌, ◌≤◌, ◌<◌, ◌&&◌, inl, inr, length, Option, None, Some, true, cond, refl, subst, arith}
-use Rattle.std.specs.Prelude.{slice_get, nat_le}
-use Rattle.std.proofs.lemmas.Bool.{le-leb, lt-leb, leb-true, leb-false, cond_both, and_parts, and_cases}
-use Rattle.jl_optable.specs.Rows.{has_row, row_of, form_of, rows_from, table, index_of}
+use Rattle.std.proofs.Common.{◌≡◌, ℕ, zero, suc, ◌+◌, ◌-◌, ◌≤◌, ◌<◌, inl, inr, length, None, Some, true, refl, subst, arith}
+use Rattle.std.specs.Prelude.{slice_get}
+use Rattle.std.proofs.lemmas.Bool.{le-leb, lt-leb, cases_lt}
+use Rattle.jl_optable.specs.Rows.{has_row, row_of, form_of, rows_from, table}
 
 -- the rows from an opcode on, where each has one
 at_index : (n from k : ℕ) → k < n → ((j : ℕ) → j ≤ k → has_row (from + j) ≡ true) → slice_get (rows_from n from) k ≡ Some (row_of (from + k))
@@ -49,13 +49,13 @@ has_form : (op : ℕ) → has_row op ≡ true → form_of op ≡ Some (row_of op
 unfolding form_of
 has_form op h = rw h refl
 
-below_gaps : (op : ℕ) → op ≤ 167 → slice_get table op ≡ form_of op
+pub below_gaps : (op : ℕ) → op ≤ 167 → slice_get table op ≡ form_of op
 unfolding table
 below_gaps op le =
     let e : 0 + op ≡ op = omega arith in
     rw (has_form op (low op (omega arith))) (subst (λ (m : ℕ). slice_get (rows_from 256 0) op ≡ Some (row_of m)) e (at_index 256 0 op (omega arith) (λ j h. low (0 + j) (omega arith))))
 
-above_gaps : (op : ℕ) → 170 ≤ op → op ≤ 200 → slice_get table (op - 2) ≡ form_of op
+pub above_gaps : (op : ℕ) → 170 ≤ op → op ≤ 200 → slice_get table (op - 2) ≡ form_of op
 unfolding table
 above_gaps op ge le =
     let k : ℕ = op - 170 in
@@ -75,25 +75,13 @@ pub table-length : length table ≡ 199
 unfolding table rows_from has_row
 table-length = refl
 
-abbrev IsFound : ℕ → Option ℕ → Type 0
-IsFound op None = form_of op ≡ None
-IsFound op (Some i) = slice_get table i ≡ form_of op
-
-all_found : (op : ℕ) → IsFound op (index_of op)
-all_found op =
-    cond_both (nat_le op 167) (Some op) (cond (nat_le 170 op && nat_le op 200) (Some (op - 2)) None) (IsFound op)
-    (λ h. below_gaps op (leb-true op 167 h))
-    (λ h. cond_both (nat_le 170 op && nat_le op 200) (Some (op - 2)) None (IsFound op)
-    (λ g. let p = and_parts (nat_le 170 op) (nat_le op 200) g in above_gaps op (leb-true 170 op p.0) (leb-true op 200 p.1))
-    (λ g. elim (and_cases (nat_le 170 op) (nat_le op 200) g) [
-      | inl less ↦ in_gaps op (omega (arith, leb-false op 167 h)) (omega (arith, leb-false 170 op less))
-      | inr more ↦ past_all op (omega (arith, leb-false op 200 more))
-    ]))
-
--- the row at an opcode's place is its row
-pub found : (op i : ℕ) → index_of op ≡ Some i → slice_get table i ≡ form_of op
-found op i e = subst (IsFound op) e (all_found op)
-
--- an opcode without a place has no row
-pub not_found : (op : ℕ) → index_of op ≡ None → form_of op ≡ None
-not_found op e = subst (IsFound op) e (all_found op)
+-- an opcode that is not below the gaps and not above them has no row
+pub no_form : (op : ℕ) → (op ≤ 167 → ⊥) → (170 ≤ op → op ≤ 200 → ⊥) → form_of op ≡ None
+no_form op not_below not_above =
+    elim (cases_lt 200 op) [
+      | inl more ↦ past_all op (omega arith)
+      | inr le ↦ elim (cases_lt op 170) [
+        | inl less ↦ in_gaps op (elim (cases_lt 167 op) [ inl lt ↦ omega arith | inr ge ↦ absurd (not_below ge) ]) (omega arith)
+        | inr ge ↦ absurd (not_above ge le)
+      ]
+    ]

@@ -1,5 +1,5 @@
 -- The rows of the table of instructions (JVMS 6.5), by groups of opcodes.
-use Rattle.std.specs.Prelude.{ℕ, zero, suc, ◌+◌, ◌-◌, ◌<◌, ⊤, List, [], ◌∷◌, Option, None, Some, Bool, not, ◌&&◌, ◌||◌, ◌==◌, nat_le, if◌then◌else◌}
+use Rattle.std.specs.Prelude.{ℕ, zero, suc, ◌+◌, ◌<◌, ⊤, List, [], ◌∷◌, Option, None, Some, Bool, not, ◌&&◌, ◌||◌, ◌==◌, nat_le, if◌then◌else◌}
 use Rattle.std.specs.List.{AllByRecursion}
 use Rattle.jl_optable.specs.declared.form.Operands.{Operands}
 use Rattle.jl_optable.specs.declared.form.Operands.TheVariants as kinds
@@ -60,10 +60,6 @@ rows_from (suc n) op = if has_row op then row_of op ∷ rows_from n (op + 1) els
 -- all rows, in the order of their opcodes
 unfoldable pub table : List Form
 table = rows_from 256 0
-
--- the place of an opcode's row among all rows, where it has one
-abbrev pub index_of : ℕ → Option ℕ
-index_of op = if nat_le op ops.GOTO then Some op else if is_within ops.TABLESWITCH ops.GOTO_W op then Some (op - 2) else None
 
 -- each opcode is lower than all after it
 abbrev pub Rise : List Form → Type 0

@@ -1,8 +1,8 @@
 //! The table itself, and the row of an opcode.
 
-ghost use Rattle.std.specs.Prelude.{◌≡◌, length, map, slice_get};
+ghost use Rattle.std.specs.Prelude.{◌≡◌, None, MatchOption, length, map, slice_get};
 ghost use Rattle.jl_logic.specs.Lists.{AreDistinct};
-ghost use Rattle.jl_optable.specs.Rows.{form_of, index_of as index_in_rows, table, Rise, opcode};
+ghost use Rattle.jl_optable.specs.Rows.{form_of, table, Rise, opcode};
 
 use crate::form::{Form, Operands};
 use crate::{each_row, ops};
@@ -47,8 +47,9 @@ fn row_at(rows: &[Form], index: usize) -> Option<Form>
 }
 
 /// The place of an opcode's row: there are none of `jsr` and `ret`.
+#[tactic(auto, using(crate::proofs::Found::below_gaps, crate::proofs::Found::above_gaps, crate::proofs::Found::no_form))]
 fn index_of(op: u8) -> Option<usize>
-    ensures { result ≡ index_in_rows op }
+    ensures { MatchOption result (form_of op ≡ None) (λ i. slice_get table i ≡ form_of op) }
 {
     match op {
         0..=ops::GOTO => Some(op as usize),
