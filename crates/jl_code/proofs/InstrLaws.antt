@@ -51,7 +51,7 @@ arg_forth pool at op kinds.Wide code next arg end le s = (omega (arith, s.1), om
 interface_length : (pool : List Entry) (at : ℕ) (code : List ℕ) (op next : ℕ) (arg : Arg) (end : ℕ) → IsInterface pool code op next arg end → whole_to at code (next + 4) ≡ Ok end
 interface_length pool at code op next arg end s = let e = ends code 1 (next + 2 + 1) s.nothing end s.third in whole at code next 4 end (omega arith) s.third.stands.within
 
-abbrev is_wide_kind : Operands → Bool
+abbrev pub is_wide_kind : Operands → Bool
 is_wide_kind kinds.Wide = true
 is_wide_kind _ = false
 
@@ -103,7 +103,7 @@ narrow op h =
     keeps (op == 197) kinds.Multi _ refl (
     no_kind (op == 196) h)))))))))))))
 
-narrow_kind : (op : ℕ) → (op == 196) ≡ false → is_wide_kind (operands_of op) ≡ false
+pub narrow_kind : (op : ℕ) → (op == 196) ≡ false → is_wide_kind (operands_of op) ≡ false
 narrow_kind op h = let n = narrow op h in n.narrow
 
 -- ---- widened instructions

@@ -14,7 +14,7 @@ use Rattle.jl_names.specs.Text.{plain, has_no_lone_surrogate}
 use Rattle.jl_code.specs.declared.code.Arg.{Arg}
 use Rattle.jl_code.specs.declared.code.Instr.{Instr}
 use Rattle.jl_code.specs.Spelling.{InstrStands, IsCode}
-use Rattle.jl_code.specs.Sound.{PlacesRise, names_entry}
+use Rattle.jl_code.specs.Sound.{PlacesRise, names_entry, has_shape}
 use Rattle.jl_code.specs.PlaceTables.{index_in}
 use Rattle.jl_code.specs.Locals.{local_of}
 use Rattle.jl_code.specs.declared.fault.CodeFault.{CodeFault}
@@ -23,7 +23,7 @@ use Rattle.jl_code.specs.declared.fault.CodeFault.TheVariants as faults
 use Rattle.jl_code.specs.declared.code.Arg.TheVariants as args
 use Rattle.jl_code.specs.declared.code.Code.TheVariants as codes
 use Rattle.jl_code.specs.Operands.{branch_at, inc_at, wide_inc_at, table_at, case_at, lookup_at, lookup_case}
-use Rattle.jl_code.specs.References.{is_right_index, class_at, member_tag, member_class, member_name, member_desc}
+use Rattle.jl_code.specs.References.{is_right_index, class_text, member_tag, member_class, member_name, member_desc}
 use Rattle.jl_code.specs.Instructions.{instr_at, plain_at, wide_at, wide_arg_at, arg_at, byte_at, short_at, local_at, index_at, interface_at, dynamic_at, multi_at}
 use Rattle.jl_code.specs.Stubs.{makes_stub}
 use Rattle.jl_code.specs.Places.{places_from, next_place, end_at, wide_end, table_end, lookup_end}
@@ -202,13 +202,16 @@ instr op arg = record { at = 0; op = op; wide = false; arg = arg }
 a_hidden_local : (local_of ops.ILOAD_0 args.Nothing ≡ Some 0) × (local_of ops.ALOAD_3 args.Nothing ≡ Some 3) × (local_of ops.LSTORE_2 args.Nothing ≡ Some 2) × (local_of ops.ASTORE_1 args.Nothing ≡ Some 1)
 a_hidden_local = (refl, refl, refl, refl)
 
+the_same_by_numbers : (local_of 26 args.Nothing ≡ Some 0) × (local_of 33 args.Nothing ≡ Some 3) × (local_of 45 args.Nothing ≡ Some 3) × (local_of 59 args.Nothing ≡ Some 0) × (local_of 78 args.Nothing ≡ Some 3)
+the_same_by_numbers = (refl, refl, refl, refl, refl)
+
 a_local : (local_of ops.ALOAD (args.Local 7) ≡ Some 7) × (local_of ops.IINC (args.Inc 300 (negsuc 0)) ≡ Some 300)
 a_local = (refl, refl)
 
 no_local : (local_of ops.IALOAD args.Nothing ≡ None) × (local_of ops.SASTORE args.Nothing ≡ None) × (local_of ops.BIPUSH (args.Number (pos 1)) ≡ None)
 no_local = (refl, refl, refl)
 
-a_class_text : (class_at some_pool 2 ≡ Some (102 ∷ [])) × (class_at some_pool 8 ≡ Some (91 ∷ 91 ∷ 73 ∷ [])) × (class_at some_pool 5 ≡ None)
+a_class_text : (class_text some_pool 2 ≡ Some (102 ∷ [])) × (class_text some_pool 8 ≡ Some (91 ∷ 91 ∷ 73 ∷ [])) × (class_text some_pool 5 ≡ None)
 unfolding plain encode
 a_class_text = (refl, refl, refl)
 
@@ -223,6 +226,10 @@ no_member = (refl, refl, refl, refl)
 an_array_is_named : (names_entry some_pool ops.NEW kinds.Index2 (args.Index 8) ≡ false) × (names_entry some_pool ops.CHECKCAST kinds.Index2 (args.Index 8) ≡ true)
 unfolding is_right_index brackets plain encode
 an_array_is_named = (refl, refl)
+
+-- a branch has a place, ldc2_w a long or an index, and no instruction the opcode of wide
+shapes : (has_shape ops.GOTO kinds.Target2 (args.Target 3) ≡ true) × (has_shape ops.GOTO kinds.Target2 (args.Index 3) ≡ false) × (has_shape ops.LDC2_W kinds.Index2 (args.Long (pos 5)) ≡ true) × (has_shape ops.NEW kinds.Index2 (args.Long (pos 5)) ≡ false) × (has_shape ops.WIDE kinds.Wide args.Nothing ≡ false)
+shapes = (refl, refl, refl, refl, refl)
 
 -- the second instruction begins at 2
 two_places : (index_in (Some 0 ∷ None ∷ Some 1 ∷ []) 2 ≡ Some 1) × (index_in (Some 0 ∷ None ∷ Some 1 ∷ []) 1 ≡ None) × (index_in (Some 0 ∷ None ∷ Some 1 ∷ []) 3 ≡ None)

@@ -1,9 +1,9 @@
 -- What is spelled as code and makes no stub is sound.
-use Rattle.std.proofs.Common.{◌≡◌, ℕ, ◌+◌, ◌<◌, inl, inr, Bool, true, false, not, leb, eqb, ℤ, List, [], ◌∷◌, length, Option, None, Some, refl, sym, ap, subst, arith}
-use Rattle.std.specs.Prelude.{IsTrue, ◌&&◌, slice_get}
+use Rattle.std.proofs.Common.{◌≡◌, ℕ, ◌+◌, ◌≤◌, ◌<◌, inl, inr, Bool, true, false, not, leb, eqb, ℤ, List, [], ◌∷◌, length, Option, None, Some, refl, sym, ap, subst, arith}
+use Rattle.std.specs.Prelude.{IsTrue, ◌&&◌, slice_get, ◌||◌, ◌⊎◌}
 use Rattle.std.specs.Option.{option_map}
 use Rattle.std.specs.List.{list_all, AllByRecursion}
-use Rattle.std.proofs.lemmas.Bool.{cond_both, and_from, and_parts, or_cases, not_from_false, le-leb, lt-leb, leb-true, eqb-true}
+use Rattle.std.proofs.lemmas.Bool.{cond_both, and_from, and_parts, or_cases, not_from_false, le-leb, lt-leb, leb-true, eqb-true, or_left, or_right, ne_eqb}
 use Rattle.jl_prim.specs.declared.declaration.Handler.{Handler}
 use Rattle.jl_pool.specs.declared.entry.Entry.{Entry}
 use Rattle.jl_optable.specs.declared.form.Operands.{Operands}
@@ -19,8 +19,8 @@ use Rattle.jl_code.specs.Instructions.{long_or_index, names_local}
 use Rattle.jl_code.specs.Stubs.{makes_stub}
 use Rattle.jl_code.specs.Decoding.{first_where, stub_or, kind_of}
 use Rattle.jl_code.specs.Spelling.{ArgStands, WideArgStands, InstrStands, StandInstrs, IsCode}
-use Rattle.jl_code.specs.Sound.{starts, PlacesRise, names_entry, AreSound, IsSound}
-use Rattle.jl_code.proofs.InstrLaws.{instr_forth}
+use Rattle.jl_code.specs.Sound.{starts, PlacesRise, names_entry, has_shape, may_be_wide, AreSound, IsSound}
+use Rattle.jl_code.proofs.InstrLaws.{instr_forth, is_wide_kind, narrow_kind}
 use Rattle.jl_code.proofs.CodeLaws.{place_of}
 
 -- ---- places
@@ -124,6 +124,79 @@ named pool code [] at end stand = refl
 named pool code (i ∷ is) at end stand =
     and_from (names_entry pool i.op (operands_of i.op) i.arg) (list_all (λ i. names_entry pool i.op (operands_of i.op) i.arg) is) (instr_named pool code at i stand.0 stand.1) (named pool code is stand.0 end stand.2)
 
+-- ---- the form of operands
+
+long_shaped_1 : (op i : ℕ) (o : Option ℤ) → eqb op 20 ≡ true → has_shape op kinds.Index1 (long_or_index i o) ≡ true
+long_shaped_1 op i None h = refl
+long_shaped_1 op i (Some v) h = h
+
+long_shaped_2 : (op i : ℕ) (o : Option ℤ) → eqb op 20 ≡ true → has_shape op kinds.Index2 (long_or_index i o) ≡ true
+long_shaped_2 op i None h = refl
+long_shaped_2 op i (Some v) h = h
+
+arg_shaped : (pool : List Entry) (code : List ℕ) (at op : ℕ) (kind : Operands) (next : ℕ) (arg : Arg) (end : ℕ) → is_wide_kind kind ≡ false → ArgStands pool code at op kind next arg end → has_shape op kind arg ≡ true
+arg_shaped pool code at op kinds.Nothing next arg end narrow s = rw s.0 refl
+arg_shaped pool code at op kinds.Byte next arg end narrow s = rw s.meaning refl
+arg_shaped pool code at op kinds.Short next arg end narrow s = rw s.meaning refl
+arg_shaped pool code at op kinds.Local next arg end narrow s = rw s.meaning refl
+arg_shaped pool code at op kinds.Index1 next arg end narrow s =
+    rw s.meaning (cond_both (eqb op 20) (long_or_index s.n _) (args.Index s.n) (λ a. has_shape op kinds.Index1 a ≡ true) (λ h. long_shaped_1 op s.n _ h) (λ h. refl))
+arg_shaped pool code at op kinds.Index2 next arg end narrow s =
+    rw s.meaning (cond_both (eqb op 20) (long_or_index s.n _) (args.Index s.n) (λ a. has_shape op kinds.Index2 a ≡ true) (λ h. long_shaped_2 op s.n _ h) (λ h. refl))
+arg_shaped pool code at op kinds.Inc next arg end narrow s = rw s.meaning refl
+arg_shaped pool code at op kinds.Target2 next arg end narrow s = rw s.meaning refl
+arg_shaped pool code at op kinds.Target4 next arg end narrow s = rw s.meaning refl
+arg_shaped pool code at op kinds.Table next arg end narrow s = rw s.meaning refl
+arg_shaped pool code at op kinds.Lookup next arg end narrow s = rw s.meaning refl
+arg_shaped pool code at op kinds.Interface next arg end narrow s = rw s.meaning refl
+arg_shaped pool code at op kinds.Dynamic next arg end narrow s = rw s.meaning refl
+arg_shaped pool code at op kinds.Multi next arg end narrow s = rw s.meaning refl
+arg_shaped pool code at op kinds.Wide next arg end narrow s = absurd cc
+
+inc_kind : (op : ℕ) → op ≡ 132 → operands_of op ≡ kinds.Inc
+unfolding operands_of
+inc_kind op e = rw e refl
+
+local_kind : (op : ℕ) → IsTrue (names_local op) → operands_of op ≡ kinds.Local
+unfolding operands_of
+local_kind op h =
+    let few : (op ≤ 25) ⊎ ((54 ≤ op) × (op ≤ 58)) = elim (or_cases (leb 21 op && leb op 25) (leb 54 op && leb op 58) h) [
+      | inl load ↦ inl (leb-true op 25 (and_parts (leb 21 op) (leb op 25) load).1)
+      | inr store ↦ let p = and_parts (leb 54 op) (leb op 58) store in inr (leb-true 54 op p.0, leb-true op 58 p.1)
+    ] in
+    let many : 20 < op = elim (or_cases (leb 21 op && leb op 25) (leb 54 op && leb op 58) h) [
+      | inl load ↦ (let a = leb-true 21 op (and_parts (leb 21 op) (leb op 25) load).0 in omega arith)
+      | inr store ↦ (let a = leb-true 54 op (and_parts (leb 54 op) (leb op 58) store).0 in omega arith)
+    ] in
+    let far : op ≡ 188 → ⊥ = λ e. elim few [ inl a ↦ omega (arith, a, e) | inr b ↦ omega (arith, b.1, e) ] in
+    let names : names_local op ≡ true = h in
+    rw (ne_eqb op 16 (λ e. omega (arith, many, e)), ne_eqb op 188 far, ne_eqb op 17 (λ e. omega (arith, many, e)), names) refl
+
+wide_shaped : (code : List ℕ) (op next : ℕ) (arg : Arg) (end : ℕ) → WideArgStands code op next arg end → has_shape op (operands_of op) arg ≡ true
+wide_shaped code op next arg end (inl s) = rw (inc_kind op (eqb-true op 132 s.0), s.1.meaning) refl
+wide_shaped code op next arg end (inr s) = rw (local_kind op (and_parts (not (eqb op 132)) (names_local op) s.0).1, s.1.meaning) refl
+
+instr_shaped : (pool : List Entry) (code : List ℕ) (at : ℕ) (i : Instr) (end : ℕ) → InstrStands pool code at i end → has_shape i.op (operands_of i.op) i.arg ≡ true
+instr_shaped pool code at i end (inl s) = arg_shaped pool code at i.op (operands_of i.op) (at + 1) i.arg end (narrow_kind i.op s.narrow) s.operands
+instr_shaped pool code at i end (inr s) = wide_shaped code i.op (at + 1 + 1) i.arg end s.operands
+
+shaped : (pool : List Entry) (code : List ℕ) (is : List Instr) (at end : ℕ) → StandInstrs pool code at is end → IsTrue (list_all (λ i. has_shape i.op (operands_of i.op) i.arg) is)
+shaped pool code [] at end stand = refl
+shaped pool code (i ∷ is) at end stand =
+    and_from (has_shape i.op (operands_of i.op) i.arg) (list_all (λ i. has_shape i.op (operands_of i.op) i.arg) is) (instr_shaped pool code at i stand.0 stand.1) (shaped pool code is stand.0 end stand.2)
+
+widens : (code : List ℕ) (op next : ℕ) (arg : Arg) (end : ℕ) → WideArgStands code op next arg end → (eqb op 132 || names_local op) ≡ true
+widens code op next arg end (inl s) = or_left (eqb op 132) (names_local op) s.0
+widens code op next arg end (inr s) = or_right (eqb op 132) (names_local op) (and_parts (not (eqb op 132)) (names_local op) s.0).1
+
+instr_widened : (pool : List Entry) (code : List ℕ) (at : ℕ) (i : Instr) (end : ℕ) → InstrStands pool code at i end → may_be_wide i ≡ true
+instr_widened pool code at i end (inl s) = rw s.plain refl
+instr_widened pool code at i end (inr s) = or_right (not i.wide) (eqb i.op 132 || names_local i.op) (widens code i.op (at + 1 + 1) i.arg end s.operands)
+
+widened : (pool : List Entry) (code : List ℕ) (is : List Instr) (at end : ℕ) → StandInstrs pool code at is end → IsTrue (list_all may_be_wide is)
+widened pool code [] at end stand = refl
+widened pool code (i ∷ is) at end stand = and_from (may_be_wide i) (list_all may_be_wide is) (instr_widened pool code at i stand.0 stand.1) (widened pool code is stand.0 end stand.2)
+
 -- ---- stubs
 
 none_first : (test : Instr → Bool) (is : List Instr) → first_where test is ≡ None → IsTrue (list_all (λ i. not (test i)) is)
@@ -162,6 +235,8 @@ instrs_sound pool desc code handlers is s =
       rise = rising pool code s.instrs 0 (length code) s.stand;
       inside = inside pool code s.instrs 0 (length code) s.stand;
       rows = rows pool code s.instrs 0 (length code) s.stand;
+      shaped = shaped pool code s.instrs 0 (length code) s.stand;
+      widened = widened pool code s.instrs 0 (length code) s.stand;
       lead = s.lead;
       handled = s.handled;
       named = named pool code s.instrs 0 (length code) s.stand;

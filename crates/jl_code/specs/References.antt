@@ -21,13 +21,13 @@ has_tag tag (Some found) = found == tag
 -- ---- classes
 
 -- the text of a class, by the index of the text
-abbrev pub class_text : List Entry → Option ℕ → Option (List ℕ)
-class_text pool None = None
-class_text pool (Some name) = text_of pool name
+abbrev pub text_named : List Entry → Option ℕ → Option (List ℕ)
+text_named pool None = None
+text_named pool (Some name) = text_of pool name
 
 -- the text of the class at an index: its name, or the descriptor of an array
-abbrev pub class_at : List Entry → ℕ → Option (List ℕ)
-class_at pool i = class_text pool (class_of pool i)
+abbrev pub class_text : List Entry → ℕ → Option (List ℕ)
+class_text pool i = text_named pool (class_of pool i)
 
 -- ---- members
 
@@ -58,7 +58,7 @@ desc_text pool (Some named) = paired_text pool named.1
 -- the text of the class among the parts of a member
 abbrev pub owner_text : List Entry → Option (ℕ × ℕ × ℕ) → Option (List ℕ)
 owner_text pool None = None
-owner_text pool (Some member) = class_at pool member.1
+owner_text pool (Some member) = class_text pool member.1
 
 -- the text of the class that a member is looked up in
 abbrev pub member_class : List Entry → ℕ → Option (List ℕ)
@@ -143,7 +143,7 @@ brackets_or_none (Some name) = Some (brackets name)
 
 -- how many dimensions a class has, which are the [ of its name
 abbrev pub class_dims : List Entry → ℕ → Option ℕ
-class_dims pool i = brackets_or_none (class_at pool i)
+class_dims pool i = brackets_or_none (class_text pool i)
 
 -- ---- which indices are right
 

@@ -9,7 +9,7 @@ use jl_prim::Name;
 
 /// The text of the class at an index: its name, or the descriptor of an array.
 pub fn class_text(pool: &Pool, i: u16) -> Option<&Name>
-    ensures { option_copied result ≡ words.class_at pool.now i }
+    ensures { option_copied result ≡ words.class_text pool.now i }
 {
     pool.text(pool.class(i)?)
 }

@@ -5,4 +5,4 @@ pub mod ItemLaws
 mod Rows
 pub mod TagLaws
 pub mod WholeLaws
-pub mod SoundLaws
+pub mod FittingLaws

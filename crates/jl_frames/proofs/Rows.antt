@@ -7,7 +7,7 @@ use Rattle.jl_frames.specs.declared.frame.RawItem.TheVariants as items
 use Rattle.jl_frames.specs.declared.form.Form.TheVariants as forms
 use Rattle.jl_frames.specs.Tags.{tag_rows, form_of}
 use Rattle.jl_frames.specs.Reading.{operand_at, item_of, item_at, delta_at, stated_at, full_at, change_at, frame_from, frame_at, frames_of}
-use Rattle.jl_frames.specs.Sound.{States, OffsetsRise}
+use Rattle.jl_frames.specs.Fitting.{States, OffsetsRise}
 use Rattle.jl_frames.specs.Grammar.{item_bytes, Spells, IsFrames}
 
 no_frames : frames_of (0 ∷ 0 ∷ []) ≡ Ok []

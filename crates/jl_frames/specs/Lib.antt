@@ -1,4 +1,4 @@
 pub mod Grammar
 pub mod Reading
 pub mod Tags
-pub mod Sound
+pub mod Fitting

@@ -7,7 +7,7 @@ ghost use Rattle.jl_frames.specs.declared.fault.FrameFault.{FrameFault};
 ghost use Rattle.jl_frames.specs.declared.frame.Frame.{Frame};
 ghost use Rattle.jl_frames.specs.declared.frame.RawItem.{RawItem};
 ghost use Rattle.jl_frames.specs.Grammar.{IsFrames};
-ghost use Rattle.jl_frames.specs.Sound.{AreSound};
+ghost use Rattle.jl_frames.specs.Fitting.{AreFitting};
 ghost use Rattle.jl_frames.specs.Tags.{form_of as form_of_tag};
 ghost use Rattle.jl_frames.specs.Reading.{told, item_of as item_behind, item_at as item_read, items_at as items_read, delta_at as delta_read, stated_at as stated_read, full_at as full_read, change_at as change_read, frame_from as frame_read, frame_at, frames_of};
 
@@ -207,7 +207,7 @@ pub fn read_frames(alloc: Global, bytes: &[u8]) -> Result<Vec<Frame>, FrameFault
     ensures found { IfOk result (λ fs. IsFrames bytes.now fs.items) }
     ensures only { (fs : List Frame) → IsFrames bytes.now fs → Gives told (λ x. x.items) result (Ok fs) }
     // What follows of frames that are read.
-    ensures sound { IfOk result (λ fs. AreSound fs.items) }
+    ensures fitting { IfOk result (λ fs. AreFitting fs.items) }
     // There is a fault exactly where there are no frames.
     ensures one { ((f : FrameFault) × (frames_of bytes.now ≡ Err f)) ↔ ((fs : List Frame) → IsFrames bytes.now fs → ⊥) }
 {

@@ -46,13 +46,13 @@ abbrev pub type_bytes : List ℕ → FieldType → List ℕ
 type_bytes text t = replicate t.dims 91 ++ base_bytes text t.base
 
 -- what stands between two places of a text, where both are places of it
-abbrev pub part : List ℕ → ℕ → ℕ → Option (List ℕ)
-part text from to = if nat_le from to && nat_le to (length text) then Some (between text from to) else None
+abbrev pub piece : List ℕ → ℕ → ℕ → Option (List ℕ)
+piece text from to = if nat_le from to && nat_le to (length text) then Some (between text from to) else None
 
 -- the name that a base names, where it is a class
 abbrev pub base_class : List ℕ → BaseType → Option (List ℕ)
 base_class text (Prim b) = None
-base_class text (Class from to) = part text from to
+base_class text (Class from to) = piece text from to
 
 -- the name of the class that a type in a text names, which of an array is that of its elements
 abbrev pub class_in : List ℕ → FieldType → Option (List ℕ)

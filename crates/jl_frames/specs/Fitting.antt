@@ -19,6 +19,6 @@ States changes.Append n = (1 ≤ n) × (n ≤ 3)
 States (changes.Full locals) n = (locals ≤ n) × (n < locals + 65536)
 
 -- offsets rise, and each frame has the items that its change states
-pub record AreSound (frames : List Frame) : Type 0 where
+pub record AreFitting (frames : List Frame) : Type 0 where
   pub rise : OffsetsRise frames
   pub stated : AllByRecursion (λ (f : Frame). States f.change (length f.items)) frames

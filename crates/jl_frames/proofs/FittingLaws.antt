@@ -1,4 +1,4 @@
--- Frames that are spelled are sound.
+-- Frames that are spelled fit.
 use Rattle.std.proofs.Common.{ℕ, ◌+◌, ◌<◌, List, [], ◌∷◌, length, ap, length-append, arith}
 use Rattle.std.specs.List.{AllByRecursion}
 use Rattle.jl_frames.specs.declared.frame.Frame.{Frame}
@@ -6,7 +6,7 @@ use Rattle.jl_frames.specs.declared.frame.Change.{Change}
 use Rattle.jl_frames.specs.declared.frame.Change.TheVariants as changes
 use Rattle.jl_frames.specs.declared.frame.RawItem.{RawItem}
 use Rattle.jl_frames.specs.Grammar.{Spells, AreFrames, IsFrames}
-use Rattle.jl_frames.specs.Sound.{OffsetsRise, States, AreSound}
+use Rattle.jl_frames.specs.Fitting.{OffsetsRise, States, AreFitting}
 
 behind : (fs : List Frame) (k base : ℕ) (text : List ℕ) → k < base → AreFrames base fs text → AllByRecursion (λ (later : Frame). k < later.offset) fs
 behind [] k base text lt are = tt
@@ -30,5 +30,5 @@ all_stated : (fs : List Frame) (base : ℕ) (text : List ℕ) → AreFrames base
 all_stated [] base text are = tt
 all_stated (f ∷ fs) base text are = (stated_by are.2.delta f.change f.items are.0 are.2.spelled, all_stated fs (f.offset + 1) are.1 are.3)
 
-pub frames_sound : (bytes : List ℕ) (fs : List Frame) → IsFrames bytes fs → AreSound fs
-frames_sound bytes fs i = record { rise = rising fs 0 i.text i.spelled; stated = all_stated fs 0 i.text i.spelled }
+pub frames_fit : (bytes : List ℕ) (fs : List Frame) → IsFrames bytes fs → AreFitting fs
+frames_fit bytes fs i = record { rise = rising fs 0 i.text i.spelled; stated = all_stated fs 0 i.text i.spelled }
