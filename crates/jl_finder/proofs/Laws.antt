@@ -1,5 +1,5 @@
 -- What is found, by the places where it stands.
-use Rattle.std.proofs.Common.{◌≡◌, ℕ, List, [], ◌∷◌, ◌++◌, length, map, filter, Option, None, Some, Result, Ok, Err, Bool, true, false, cond, not, nat_lt, Contains, inl, inr, ⊎_elim, refl, sym, ◌∙◌, ap, subst, append-nil, append_assoc, true≢false}
+use Rattle.std.proofs.Common.{◌≡◌, ℕ, List, [], ◌∷◌, ◌++◌, length, map, filter, Option, None, Some, Result, Ok, Err, Bool, true, false, cond, not, nat_lt, Contains, ⊎_elim, refl, sym, ◌∙◌, ap, subst, append-nil, append_assoc, true≢false}
 use Rattle.std.specs.Prelude.{is_some}
 use Rattle.std.specs.List.{flat_map, list_any}
 use Rattle.std.proofs.lemmas.List.{map-append}
@@ -8,7 +8,7 @@ use Rattle.jl_logic.specs.Lists.{AreDistinct}
 use Rattle.jl_logic.specs.Order.{is_text}
 use Rattle.jl_logic.proofs.Rising.{contains_head, contains_tail, contains_nothing, contains_cases}
 use Rattle.jl_reading.specs.Reading.{◌>>=◌}
-use Rattle.jl_reading.proofs.Steps.{bind_ok, guard_ok, cond_ok, ok_is}
+use Rattle.jl_reading.proofs.Steps.{bind_ok, guard_ok, ok_is}
 use Rattle.jl_prim.specs.declared.declaration.Declaration.{Declaration}
 use Rattle.jl_prim.specs.declared.declaration.Observed.{Observed}
 use Rattle.jl_tree.specs.declared.entry.Entry.{Entry}
@@ -19,10 +19,10 @@ use Rattle.jl_finder.specs.declared.fault.FindFault.{FindFault}
 use Rattle.jl_finder.specs.declared.fault.FindFault.TheVariants as finds
 use Rattle.jl_finder.specs.Paths.{path_in, is_archive}
 use Rattle.jl_finder.specs.Folders.{entries_of, is_there, declaration_in, is_module, folders_below, packages_below, top_classes}
-use Rattle.jl_finder.specs.Observed.{Tally, most_bytes, observed_or, declared_by, beside_or, module_at, content_of, with_module, with_folders, scan_module, name_of, among, scan_folder, scan_entry, scan_entries, scan_listed, scan_element, scan_elements, first_of_each, observed, found_or}
-use Rattle.jl_finder.specs.Scanning.{AreEntries}
+use Rattle.jl_finder.specs.Observed.{Tally, observed_or, declared_by, beside_or, module_at, content_of, with_module, with_folders, scan_module, name_of, among, scan_folder, scan_entry, scan_entries, scan_listed, scan_element, scan_elements, first_of_each, found_or}
+use Rattle.jl_prim.specs.Limits.{most_file_bytes}
 use Rattle.jl_finder.specs.Asking.{place_at, place_in, places_of}
-use Rattle.jl_finder.specs.Laws.{IsDeclared, IsFound, FindsByPlaces}
+use Rattle.jl_finder.specs.Laws.{IsDeclared, FindsByPlaces}
 use Rattle.jl_finder.proofs.Members.{name_is, is_name, map_from, map_in, filter_from, filter_in, any_in}
 use Rattle.jl_finder.proofs.Asking.{inside}
 
@@ -47,7 +47,7 @@ at_well files place o m e = by (file_at files (declaration_in place)) refl
     by None q k = absurd (true≢false (sym m ∙ ap (λ c. is_some c) q))
     by (Some bytes) q k =
         let d : declared_by place (packages_below files place) bytes ≡ Ok o = ap (λ c. declared_by place (packages_below files place) (content_of c)) (sym q) ∙ k in
-        let w = guard_ok (nat_lt most_bytes (length bytes)) (finds.TooLarge (declaration_in place) (length bytes)) (observed_or place (info_of bytes (packages_below files place))) o d in
+        let w = guard_ok (nat_lt most_file_bytes (length bytes)) (finds.TooLarge (declaration_in place) (length bytes)) (observed_or place (info_of bytes (packages_below files place))) o d in
         let r = read_well place (info_of bytes (packages_below files place)) o w.1 in (
           r.1,
           record {

@@ -11,7 +11,8 @@ use Rattle.jl_finder.specs.declared.fault.FindFault.{FindFault}
 use Rattle.jl_finder.specs.declared.fault.FindFault.TheVariants as finds
 use Rattle.jl_finder.specs.Paths.{path_in}
 use Rattle.jl_finder.specs.Folders.{declaration_in, folders_below, packages_below, top_classes}
-use Rattle.jl_finder.specs.Observed.{told, Tally, most_bytes, most_folders, observed_or, content_of, declared_by, beside_or, module_at, with_module, with_folders, scan_module}
+use Rattle.jl_finder.specs.Observed.{told, Tally, observed_or, content_of, declared_by, beside_or, module_at, with_module, with_folders, scan_module}
+use Rattle.jl_prim.specs.Limits.{most_file_bytes, most_folders}
 use Rattle.jl_finder.specs.Scanning.{AreEntries, is_top_class, walked_from, whole_content}
 use Rattle.jl_finder.proofs.Entries.{tops_are, some_told}
 use Rattle.jl_finder.proofs.Steps.{step_fails, fails_so, step_done, fails_as}
@@ -24,7 +25,7 @@ module_so r d total q h = subst (Gives told (λ o. o) r) (sym q) h
 
 declared_none : (place file : List ℕ) (packages : List (List ℕ)) (o : Option (List ℕ)) → whole_content file o ≡ Ok None → declared_by place packages (content_of o) ≡ observed_or place (info_of [] packages)
 declared_none place file packages None h = refl
-declared_none place file packages (Some bytes) h = by (nat_lt most_bytes (length bytes)) h
+declared_none place file packages (Some bytes) h = by (nat_lt most_file_bytes (length bytes)) h
   where
     by : (b : Bool) → cond b (Err (finds.TooLarge file (length bytes))) (Ok (Some bytes)) ≡ Ok None → cond b (Err (finds.TooLarge (declaration_in place) (length bytes))) (observed_or place (info_of bytes packages)) ≡ observed_or place (info_of [] packages)
     by true k = absurd cc
@@ -32,7 +33,7 @@ declared_none place file packages (Some bytes) h = by (nat_lt most_bytes (length
 
 declared_some : (place file : List ℕ) (packages : List (List ℕ)) (o : Option (List ℕ)) (content : List ℕ) → whole_content file o ≡ Ok (Some content) → declared_by place packages (content_of o) ≡ observed_or place (info_of content packages)
 declared_some place file packages None content h = let q : None ≡ Some content = cc in absurd cc
-declared_some place file packages (Some bytes) content h = by (nat_lt most_bytes (length bytes)) h
+declared_some place file packages (Some bytes) content h = by (nat_lt most_file_bytes (length bytes)) h
   where
     by : (b : Bool) → cond b (Err (finds.TooLarge file (length bytes))) (Ok (Some bytes)) ≡ Ok (Some content) → cond b (Err (finds.TooLarge (declaration_in place) (length bytes))) (observed_or place (info_of bytes packages)) ≡ observed_or place (info_of content packages)
     by true k = absurd cc
@@ -40,7 +41,7 @@ declared_some place file packages (Some bytes) content h = by (nat_lt most_bytes
 
 declared_large : (place file : List ℕ) (packages : List (List ℕ)) (o : Option (List ℕ)) (f : FindFault) → file ≡ declaration_in place → whole_content file o ≡ Err f → declared_by place packages (content_of o) ≡ Err f
 declared_large place file packages None f e h = absurd cc
-declared_large place file packages (Some bytes) f e h = by (nat_lt most_bytes (length bytes)) h
+declared_large place file packages (Some bytes) f e h = by (nat_lt most_file_bytes (length bytes)) h
   where
     by : (b : Bool) → cond b (Err (finds.TooLarge file (length bytes))) (Ok (Some bytes)) ≡ Err f → cond b (Err (finds.TooLarge (declaration_in place) (length bytes))) (observed_or place (info_of bytes packages)) ≡ Err f
     by true k = ap (λ p. Err (finds.TooLarge p (length bytes))) (sym e) ∙ retype k

@@ -4,7 +4,8 @@ use Rattle.jl_tree.specs.Files.{File}
 use Rattle.jl_finder.specs.declared.fault.FindFault.TheVariants as finds
 use Rattle.jl_finder.specs.Paths.{is_archive, is_walked, fronts, put_name, in_order}
 use Rattle.jl_finder.specs.Folders.{entries_in_order, put_entry}
-use Rattle.jl_finder.specs.Observed.{with_folders, with_module, observed, scan_elements, scan_entries, scan_listed, scan_module, first_of_each, scan_folder, most_bytes}
+use Rattle.jl_finder.specs.Observed.{with_folders, with_module, observed, scan_elements, scan_entries, scan_listed, scan_module, first_of_each, scan_folder}
+use Rattle.jl_prim.specs.Limits.{most_file_bytes}
 use Rattle.jl_prim.specs.declared.declaration.Declaration.{Declaration}
 use Rattle.jl_modinfo.specs.Reading.{info_of}
 use Rattle.jl_logic.specs.Order.{is_text}
@@ -60,7 +61,7 @@ class-beside = refl
 
 -- ---- modules that are found, where some bytes declare a module
 
-module _ (bytes : List ℕ) (d : Declaration) (small : nat_lt most_bytes (length bytes) ≡ false) (declares : info_of bytes [] ≡ Ok d) where
+module _ (bytes : List ℕ) (d : Declaration) (small : nat_lt most_file_bytes (length bytes) ≡ false) (declares : info_of bytes [] ≡ Ok d) where
   abbrev info : List ℕ → File
   info path = record { path = path; bytes = bytes }
 

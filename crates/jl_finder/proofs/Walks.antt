@@ -26,7 +26,8 @@ use Rattle.jl_finder.specs.declared.fault.FindFault.{FindFault}
 use Rattle.jl_finder.specs.declared.fault.FindFault.TheVariants as finds
 use Rattle.jl_finder.specs.Paths.{path_in, rests, is_nested, fronts, is_class_file, is_walked}
 use Rattle.jl_finder.specs.Folders.{entries_of, is_reached, folders_below, packages_below}
-use Rattle.jl_finder.specs.Observed.{told, most_folders}
+use Rattle.jl_finder.specs.Observed.{told}
+use Rattle.jl_prim.specs.Limits.{most_folders}
 use Rattle.jl_finder.specs.declared.walk.Walked.{Walked}
 use Rattle.jl_logic.specs.Answers.{Gives, Fails}
 use Rattle.jl_finder.specs.Scanning.{AreEntries, is_class_entry, is_walked_entry, holds_class, walked_in, walked_from, walked_of, Steps, AreSortedNames}

@@ -1,4 +1,4 @@
--- What is in folders, by the flat list of files.
+-- What is in folders, by the flat list of files (`java.lang.module.ModuleFinder.of`).
 use Rattle.std.specs.Prelude.{ℕ, List, [], ◌∷◌, map, filter, Bool, not, ◌&&◌, is_some, codes}
 use Rattle.std.specs.List.{filter_map, flat_map, list_all, list_any}
 use Rattle.jl_logic.specs.Order.{is_text, name_cmp}

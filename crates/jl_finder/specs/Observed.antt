@@ -1,8 +1,9 @@
--- The modules that path elements give, or the first fault. All elements are scanned in order (`ModuleFinder`).
+-- The modules that path elements give, or the first fault. All elements are scanned in order (`java.lang.module.ModuleFinder.of`).
 use Rattle.std.specs.Prelude.{ℕ, ◌+◌, nat_lt, List, [], ◌∷◌, ◌++◌, length, filter, Option, None, Some, Result, Ok, Err, not, if◌then◌else◌}
 use Rattle.std.specs.List.{list_any}
 use Rattle.jl_logic.specs.Order.{is_text}
 use Rattle.jl_reading.specs.Reading.{◌>>=◌}
+use Rattle.jl_prim.specs.Limits.{most_modules, most_folders, most_file_bytes}
 use Rattle.jl_prim.specs.declared.declaration.Declaration.{Declaration}
 use Rattle.jl_prim.specs.declared.declaration.Observed.{Observed}
 use Rattle.jl_tree.specs.declared.entry.Entry.{Entry}
@@ -27,10 +28,6 @@ told finds.NoMemory = None
 
 -- ---- one module
 
--- the most bytes that a declaration file may have: 4 MiB
-abbrev pub most_bytes : ℕ
-most_bytes = 4194304
-
 abbrev pub observed_or : List ℕ → Result Declaration InfoFault → Result Observed FindFault
 observed_or place (Ok d) = Ok (record { declaration = d; place = place })
 observed_or place (Err f) = Err (finds.Info (declaration_in place) f)
@@ -42,7 +39,7 @@ content_of (Some bytes) = bytes
 -- what a declaration file with these bytes declares, where these are the packages to take
 abbrev pub declared_by : List ℕ → List (List ℕ) → List ℕ → Result Observed FindFault
 declared_by place packages bytes =
-    if nat_lt most_bytes (length bytes) then Err (finds.TooLarge (declaration_in place) (length bytes))
+    if nat_lt most_file_bytes (length bytes) then Err (finds.TooLarge (declaration_in place) (length bytes))
     else observed_or place (info_of bytes packages)
 
 -- a class file beside the declaration refuses the module
@@ -61,12 +58,6 @@ module_at files place =
 pub record Tally : Type 0 where
   pub modules : ℕ
   pub folders : ℕ
-
-abbrev pub most_modules : ℕ
-most_modules = 4096
-
-abbrev pub most_folders : ℕ
-most_folders = 65536
 
 -- so many folders more are listed
 abbrev pub with_folders : ℕ → Tally → Result Tally FindFault

@@ -1,4 +1,4 @@
--- Paths, and names in order.
+-- Paths, and names in order (`java.lang.module.ModuleFinder.of`).
 use Rattle.std.specs.Prelude.{ℕ, List, [], ◌∷◌, ◌++◌, map, Bool, not, ◌&&◌, ◌||◌, ◌==◌, nat_eq, codes, if◌then◌else◌}
 use Rattle.std.specs.List.{ends_with, filter_map, list_any}
 use Rattle.std.specs.declared.cmp.Ordering.{Ordering}

@@ -1,4 +1,4 @@
--- The parts of a search for modules: what a listing is, what is seen in it, and what each step gives.
+-- The parts of a search for modules (`java.lang.module.ModuleFinder.of`): what a listing is, what is seen in it, and what each step gives.
 use Rattle.std.specs.Prelude.{◌≡◌, ℕ, ◌+◌, List, [], ◌∷◌, ◌++◌, length, map, filter, Option, None, Some, Result, Ok, Err, Bool, true, false, not, ◌&&◌, nat_lt, IsPermutation, IsSorted, nat_eq, Contains, if◌then◌else◌}
 use Rattle.std.specs.List.{list_any}
 use Rattle.std.specs.Ordering.{is_lt}
@@ -16,7 +16,8 @@ use Rattle.jl_finder.specs.declared.counts.Counts.{Counts}
 use Rattle.jl_finder.specs.declared.walk.Walked.{Walked}
 use Rattle.jl_finder.specs.Paths.{path_in, is_archive, is_class_file, is_walked}
 use Rattle.jl_finder.specs.Folders.{is_there, declaration_name, is_module, folders_below, packages_below}
-use Rattle.jl_finder.specs.Observed.{told, Tally, most_bytes, most_folders, with_folders, scan_module, among, scan_listed, scan_elements}
+use Rattle.jl_finder.specs.Observed.{told, Tally, with_folders, scan_module, among, scan_listed, scan_elements}
+use Rattle.jl_prim.specs.Limits.{most_file_bytes, most_folders}
 
 abbrev pub tally_of : Counts → Tally
 tally_of c = record { modules = c.modules; folders = c.folders }
@@ -89,7 +90,7 @@ pub record Steps (files : List File) (place folder : List ℕ) (keys packages ke
 -- the bytes of a file that may be a declaration file, or that it is too large
 abbrev pub whole_content : List ℕ → Option (List ℕ) → Result (Option (List ℕ)) FindFault
 whole_content place None = Ok None
-whole_content place (Some bytes) = if nat_lt most_bytes (length bytes) then Err (finds.TooLarge place (length bytes)) else Ok (Some bytes)
+whole_content place (Some bytes) = if nat_lt most_file_bytes (length bytes) then Err (finds.TooLarge place (length bytes)) else Ok (Some bytes)
 
 -- the packages below a module's folder, and how many folders are listed then
 abbrev pub walked_from : List File → List ℕ → ℕ → Result (List (List ℕ) × ℕ) FindFault

@@ -1,4 +1,4 @@
--- The built-in java.base.
+-- The built-in java.base (JLS 7.7, JVMS 4.7.25).
 use Rattle.std.specs.Prelude.{ℕ, List, [], ◌∷◌, ◌++◌, map, None, codes, false}
 use Rattle.jl_prim.specs.declared.declaration.Grant.{Grant}
 use Rattle.jl_prim.specs.declared.declaration.Observed.{Observed}

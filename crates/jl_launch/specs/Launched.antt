@@ -1,4 +1,4 @@
--- What is launched: an end and a text.
+-- What is launched: an end and a text (`Configuration.resolveAndBind` for the boot layer).
 use Rattle.std.specs.Prelude.{◌≡◌, ℕ, List, [], ◌∷◌, ◌++◌, Option, Some, Result, Ok, Err, true, ◌⊎◌}
 use Rattle.std.specs.List.{concat}
 use Rattle.jl_logic.specs.Lists.{IsFront}

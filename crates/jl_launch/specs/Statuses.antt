@@ -1,4 +1,4 @@
--- Exit statuses, and what stops a launch.
+-- Exit statuses, and what stops a launch. Both are this program's own.
 use Rattle.std.specs.Prelude.{ℕ, IsTrue, is_some}
 use Rattle.jl_logic.specs.Counts.{raised}
 use Rattle.jl_launch.specs.Text.{word_text, refusal_text}

@@ -1,4 +1,4 @@
--- That a launch has one end and one text, neither more nor none.
+-- Laws of this program: that a launch has one end and one text, neither more nor none.
 use Rattle.std.specs.Prelude.{◌≡◌, ℕ, List}
 use Rattle.jl_tree.specs.Files.{File}
 use Rattle.jl_launch.specs.declared.end.LaunchEnd.{LaunchEnd}

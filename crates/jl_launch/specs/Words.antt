@@ -1,4 +1,4 @@
--- What words ask of `resolve`.
+-- What words ask of `resolve` (`Configuration.resolveAndBind`).
 use Rattle.std.specs.Prelude.{ℕ, List, ◌++◌, Result, Ok, Err}
 use Rattle.jl_words.specs.declared.command.Command.{Command}
 use Rattle.jl_words.specs.declared.command.Command.TheVariants as commands

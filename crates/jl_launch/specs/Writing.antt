@@ -1,4 +1,4 @@
--- What is written to a sink.
+-- What is written to a sink (as `java.io.OutputStream.write`).
 use Rattle.std.specs.Prelude.{◌≡◌, ℕ, List, ◌++◌, Option, option_map, Result, Ok, Err}
 use Rattle.jl_logic.specs.Lists.{IsFront}
 use Rattle.jl_tree.specs.declared.sink.SinkFault.{SinkFault}

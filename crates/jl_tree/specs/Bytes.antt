@@ -1,4 +1,4 @@
--- What a sink has taken.
+-- What a sink has taken (as `java.io.OutputStream.write`).
 use Rattle.std.specs.Prelude.{◌≡◌, ℕ, zero, suc, List, [], ◌∷◌, ◌++◌, take, Option, option_map, Result, Ok, Err}
 use Rattle.jl_logic.specs.Counts.{raised}
 use Rattle.jl_tree.specs.declared.sink.SinkFault.{SinkFault}

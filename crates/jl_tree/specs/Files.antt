@@ -1,4 +1,4 @@
--- A tree as the list of its files, and what is read and listed of it.
+-- A tree as the list of its files, and what is read and listed of it (as `java.nio.file.Files`).
 use Rattle.std.specs.Prelude.{◌≡◌, ◌≢◌, ℕ, ◌+◌, List, [], ◌∷◌, ◌++◌, length, drop, map, Option, None, Some, Result, Ok, Err, nat_eq, nat_lt, ◌==◌, ◌⊎◌, ⊤, Contains, option_map, if◌then◌else◌}
 use Rattle.std.specs.List.{starts_with, before_first, list_any}
 use Rattle.std.specs.Global.{Vec}

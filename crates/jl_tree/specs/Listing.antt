@@ -1,4 +1,4 @@
--- How the entries of a folder are gathered from a list of files.
+-- How the entries of a folder are gathered from a list of files (as `java.nio.file.Files.list`).
 use Rattle.std.specs.Prelude.{ℕ, ◌+◌, List, [], ◌∷◌, ◌++◌, length, drop, Option, None, Some, Bool, nat_eq, if◌then◌else◌}
 use Rattle.std.specs.List.{starts_with}
 use Rattle.std.specs.Cmp.Lexicographic.{pointwise}

@@ -1,4 +1,4 @@
--- Trees and sinks in memory: what they hold, and what each call of theirs answers and leaves.
+-- Trees and sinks in memory, which no text of Java has: what they hold, and what each call of theirs answers and leaves.
 use Rattle.std.specs.Prelude.{◌≡◌, ℕ, ◌-◌, List, [], ◌∷◌, ◌++◌, length, map, Option, Some, None, Result, Ok, Err, Bool, true, false, IsTrue, not, ◌&&◌, ◌||◌, ◌==◌, nat_eq, nat_lt, if◌then◌else◌, option_map}
 use Rattle.std.specs.List.{starts_with, list_any, list_all}
 use Rattle.std.specs.Global.{Vec}

@@ -8,6 +8,7 @@ use Rattle.std.proofs.lemmas.List.{length-append, length-drop, length-map, drop_
 use Rattle.jl_logic.specs.Answers.{Gives}
 use Rattle.jl_logic.specs.Lists.{Match}
 use Rattle.jl_logic.specs.Order.{is_text}
+use Rattle.jl_prim.specs.Limits.{usual_steps}
 use Rattle.jl_prim.specs.Names.{names_a_module}
 use Rattle.jl_names.specs.Names.{is_empty}
 use Rattle.jl_reading.specs.Reading.{◌>>=◌}
@@ -24,7 +25,7 @@ use Rattle.jl_words.specs.declared.setting.Verb.{Verb}
 use Rattle.jl_words.specs.declared.setting.Verb.TheVariants as verbs
 use Rattle.jl_words.specs.Settings.{verb_text}
 use Rattle.jl_words.specs.Values.{number_of, IsNumber, IsAdded, is_digit}
-use Rattle.jl_words.specs.Line.{Use, use_words, AreOperands, begins_with_dash, IsResolve, IsRun, IsSample, IsCommand, IsLine, is_some_use, uses_of, usual_steps, IsBound}
+use Rattle.jl_words.specs.Line.{Use, use_words, AreOperands, begins_with_dash, IsResolve, IsRun, IsSample, IsCommand, IsLine, is_some_use, uses_of, IsBound}
 use Rattle.jl_words.specs.Reading.{told, nothing, target_of, verb_of, verb_or, or_none, roots_or, run_words, number_or, is_option, options_from, operands_at, resolve_at, run_at, sample_at, line_read}
 use Rattle.jl_words.proofs.ValueLaws.{number_is, number_found, target_is, target_found}
 use Rattle.jl_words.proofs.UseLaws.{err_ok, same_text, at_word, from_word}
@@ -48,7 +49,7 @@ one_fails p (x ∷ xs) e = by (p x) e (one_fails p xs)
 no_place : (p : List ℕ → Bool) (xs : List (List ℕ)) → list_all p xs ≡ true → position (λ x. not (p x)) xs ≡ None
 no_place p xs e = rw (le-ltb (prefix_len (λ x. not (not (p x))) xs) (length xs) (let all = all_pass p xs e in omega (arith, all))) refl
 
-some_place : (p : List ℕ → Bool) (xs : List (List ℕ)) → position (λ x. not (p x)) xs ≡ None → list_all p xs ≡ true
+pub some_place : (p : List ℕ → Bool) (xs : List (List ℕ)) → position (λ x. not (p x)) xs ≡ None → list_all p xs ≡ true
 some_place p xs e = by (list_all p xs) refl
   where
     found : list_all p xs ≡ false → position (λ x. not (p x)) xs ≡ Some (prefix_len (λ x. not (not (p x))) xs)
@@ -58,7 +59,7 @@ some_place p xs e = by (list_all p xs) refl
     by true all = refl
     by false none = absurd (none-some _ (sym e ∙ found none))
 
-resolve_is : (words : List (List ℕ)) (given : Given) (at : ℕ) (c : Command) → resolve_at words given at ≡ Ok c → (at < length words) × AllByRecursion (λ n. IsTrue (names_a_module n)) (drop at words) × (Resolve (or_none given.elements) given.add (drop at words) ≡ c)
+pub resolve_is : (words : List (List ℕ)) (given : Given) (at : ℕ) (c : Command) → resolve_at words given at ≡ Ok c → (at < length words) × AllByRecursion (λ n. IsTrue (names_a_module n)) (drop at words) × (Resolve (or_none given.elements) given.add (drop at words) ≡ c)
 unfolding resolve_at
 resolve_is words given at c e = by (nat_lt at (length words)) refl e
   where
@@ -76,19 +77,19 @@ resolve_found words given at less named = rw (lt-ltb at (length words) less, no_
 
 -- ---- targets
 
-run_lacks : (words : List (List ℕ)) (given : Given) (at : ℕ) → slice_get words at ≡ None → run_at words given at ≡ Err (faults.Missing (codes "MODULE/CLASS"))
+pub run_lacks : (words : List (List ℕ)) (given : Given) (at : ℕ) → slice_get words at ≡ None → run_at words given at ≡ Err (faults.Missing (codes "MODULE/CLASS"))
 unfolding run_at
 run_lacks words given at e = rw e refl
 
-run_wrong : (words : List (List ℕ)) (given : Given) (at : ℕ) (word : List ℕ) → slice_get words at ≡ Some word → target_of word ≡ None → run_at words given at ≡ Err (faults.BadTarget at)
+pub run_wrong : (words : List (List ℕ)) (given : Given) (at : ℕ) (word : List ℕ) → slice_get words at ≡ Some word → target_of word ≡ None → run_at words given at ≡ Err (faults.BadTarget at)
 unfolding run_at
 run_wrong words given at word e f = rw e (rw f refl)
 
-run_found : (words : List (List ℕ)) (given : Given) (at : ℕ) (word : List ℕ) (main : List ℕ × Option (List ℕ)) → slice_get words at ≡ Some word → target_of word ≡ Some main → run_at words given at ≡ Ok (Run (run_words given main (drop (at + 1) words)))
+pub run_found : (words : List (List ℕ)) (given : Given) (at : ℕ) (word : List ℕ) (main : List ℕ × Option (List ℕ)) → slice_get words at ≡ Some word → target_of word ≡ Some main → run_at words given at ≡ Ok (Run (run_words given main (drop (at + 1) words)))
 unfolding run_at
 run_found words given at word main e f = rw e (rw f refl)
 
-run_is : (words : List (List ℕ)) (given : Given) (at : ℕ) (c : Command) → run_at words given at ≡ Ok c → (word : List ℕ) × (main : List ℕ × Option (List ℕ)) × (slice_get words at ≡ Some word) × (target_of word ≡ Some main) × (Run (run_words given main (drop (at + 1) words)) ≡ c)
+pub run_is : (words : List (List ℕ)) (given : Given) (at : ℕ) (c : Command) → run_at words given at ≡ Ok c → (word : List ℕ) × (main : List ℕ × Option (List ℕ)) × (slice_get words at ≡ Some word) × (target_of word ≡ Some main) × (Run (run_words given main (drop (at + 1) words)) ≡ c)
 run_is words given at c e = by (slice_get words at) refl
   where
     to : (word : List ℕ) → slice_get words at ≡ Some word → (r : Option (List ℕ × Option (List ℕ))) → target_of word ≡ r → (word : List ℕ) × (main : List ℕ × Option (List ℕ)) × (slice_get words at ≡ Some word) × (target_of word ≡ Some main) × (Run (run_words given main (drop (at + 1) words)) ≡ c)
@@ -101,10 +102,10 @@ run_is words given at c e = by (slice_get words at) refl
 
 -- ---- numbers
 
-number_read : (what word : List ℕ) (at n : ℕ) → number_of word ≡ Some n → number_or what (Some word) at ≡ Ok n
+pub number_read : (what word : List ℕ) (at n : ℕ) → number_of word ≡ Some n → number_or what (Some word) at ≡ Ok n
 number_read what word at n e = rw e refl
 
-number_wrong : (what word : List ℕ) (at : ℕ) → number_of word ≡ None → number_or what (Some word) at ≡ Err (faults.BadNumber at)
+pub number_wrong : (what word : List ℕ) (at : ℕ) → number_of word ≡ None → number_or what (Some word) at ≡ Err (faults.BadNumber at)
 number_wrong what word at e = rw e refl
 
 number_or_is : (what : List ℕ) (o : Option (List ℕ)) (at n : ℕ) → number_or what o at ≡ Ok n → (word : List ℕ) × (o ≡ Some word) × IsNumber word n
@@ -115,20 +116,20 @@ number_or_is what (Some word) at n e = by (number_of word) refl
     by None is = absurd (err_ok _ _ (sym (number_wrong what word at is) ∙ e))
     by (Some m) is = (word, refl, number_is word n (is ∙ ap Some (ok_is {F = WordFault} m n (sym (number_read what word at m is) ∙ e))))
 
-record Sampled (words : List (List ℕ)) (at : ℕ) (c : Command) : Type 0 where
-  number : List ℕ
-  limit : List ℕ
-  n : ℕ
-  bound : ℕ
-  first : slice_get words at ≡ Some number
-  second : slice_get words (at + 1) ≡ Some limit
-  counts : IsNumber number n
-  few : (1 ≤ n) × (n ≤ 1000)
-  bounds : IsNumber limit bound
-  last : length words ≤ at + 2
-  gives : Sample n bound ≡ c
+pub record Sampled (words : List (List ℕ)) (at : ℕ) (c : Command) : Type 0 where
+  pub number : List ℕ
+  pub limit : List ℕ
+  pub n : ℕ
+  pub bound : ℕ
+  pub first : slice_get words at ≡ Some number
+  pub second : slice_get words (at + 1) ≡ Some limit
+  pub counts : IsNumber number n
+  pub few : (1 ≤ n) × (n ≤ 1000)
+  pub bounds : IsNumber limit bound
+  pub last : length words ≤ at + 2
+  pub gives : Sample n bound ≡ c
 
-sample_is : (words : List (List ℕ)) (at : ℕ) (c : Command) → sample_at words at ≡ Ok c → Sampled words at c
+pub sample_is : (words : List (List ℕ)) (at : ℕ) (c : Command) → sample_at words at ≡ Ok c → Sampled words at c
 unfolding sample_at
 sample_is words at c e =
     let one = bind_ok (number_or (codes "N") (slice_get words at) at) _ c e in
@@ -317,7 +318,7 @@ sample_into words n bound is =
     let found = sample_found line x.0 is.number is.limit n bound first.0 (ap (slice_get line) place ∙ second.0) is.counts is.few is.bounds (omega (arith, none, length-drop (suc (suc x.0)) line)) in
     ap line_read is.text ∙ x.1 ∙ found
 
-line_into : (words : List (List ℕ)) (c : Command) → IsCommand words c → line_read words ≡ Ok c
+pub line_into : (words : List (List ℕ)) (c : Command) → IsCommand words c → line_read words ≡ Ok c
 line_into words (Resolve elements add roots) is = resolve_into words elements add roots is
 line_into words (Run r) is = run_into words r is
 line_into words (Sample n bound) is = sample_into words n bound is

@@ -7,4 +7,5 @@ mod UseLaws
 mod GivenLaws
 mod LineLaws
 mod FoundLaws
+mod FaultLaws
 mod Rows

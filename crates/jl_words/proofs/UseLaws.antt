@@ -222,19 +222,19 @@ pub record Used (verb : Verb) (words : List (List ℕ)) (given after : Given) (a
   pub text : drop at words ≡ use_words it ++ drop next words
   pub further : at < next
 
-and_then_is : (r : Result Given WordFault) (n next : ℕ) (after : Given) → and_then r n ≡ Ok (after, next) → (r ≡ Ok after) × (n ≡ next)
+pub and_then_is : (r : Result Given WordFault) (n next : ℕ) (after : Given) → and_then r n ≡ Ok (after, next) → (r ≡ Ok after) × (n ≡ next)
 and_then_is (Err f) n next after e = absurd (err_ok _ _ e)
 and_then_is (Ok g) n next after e =
     let same = ok_is {F = WordFault} (g, n) (after, next) e in
     (ap (λ x. Ok x.0) same, ap (λ x. x.1) same)
 
-valued_flag : (s : Setting) (words : List (List ℕ)) (given : Given) (at : ℕ) → is_flag s ≡ true → valued s None words given at ≡ and_then (with_value s [] at given) (at + 1)
+pub valued_flag : (s : Setting) (words : List (List ℕ)) (given : Given) (at : ℕ) → is_flag s ≡ true → valued s None words given at ≡ and_then (with_value s [] at given) (at + 1)
 valued_flag s words given at flag = rw flag refl
 
-valued_lacks : (s : Setting) (words : List (List ℕ)) (given : Given) (at : ℕ) → is_flag s ≡ false → slice_get words (at + 1) ≡ None → valued s None words given at ≡ Err (faults.Missing (setting_text s))
+pub valued_lacks : (s : Setting) (words : List (List ℕ)) (given : Given) (at : ℕ) → is_flag s ≡ false → slice_get words (at + 1) ≡ None → valued s None words given at ≡ Err (faults.Missing (setting_text s))
 valued_lacks s words given at flag second = rw flag (rw second refl)
 
-valued_apart : (s : Setting) (words : List (List ℕ)) (given : Given) (at : ℕ) (value : List ℕ) → is_flag s ≡ false → slice_get words (at + 1) ≡ Some value → valued s None words given at ≡ and_then (with_value s value (at + 1) given) (at + 2)
+pub valued_apart : (s : Setting) (words : List (List ℕ)) (given : Given) (at : ℕ) (value : List ℕ) → is_flag s ≡ false → slice_get words (at + 1) ≡ Some value → valued s None words given at ≡ and_then (with_value s value (at + 1) given) (at + 2)
 valued_apart s words given at value flag second = rw flag (rw second refl)
 
 flag_use : (u : Use) → is_flag u.setting ≡ true → use_words u ≡ setting_text u.setting ∷ []

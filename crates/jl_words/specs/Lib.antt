@@ -2,3 +2,4 @@ pub mod Settings
 pub mod Values
 pub mod Line
 pub mod Reading
+pub mod Laws

@@ -1,7 +1,8 @@
--- What a well-formed command line is.
+-- What a well-formed command line is (as the options of the command `java`).
 use Rattle.std.specs.Prelude.{◌≡◌, ℕ, ◌≤◌, List, [], ◌∷◌, ◌++◌, length, map, filter, Bool, true, false, ◌||◌, ◌==◌, IsTrue, if◌then◌else◌}
 use Rattle.std.specs.List.{flat_map, AllByRecursion}
 use Rattle.jl_logic.specs.Lists.{Match}
+use Rattle.jl_prim.specs.Limits.{most_words, most_sample_modules, usual_steps}
 use Rattle.jl_prim.specs.Names.{names_a_module}
 use Rattle.jl_words.specs.declared.command.Added.{Added}
 use Rattle.jl_words.specs.declared.command.RunWords.{RunWords}
@@ -60,9 +61,6 @@ AreElements uses elements = elements ≡ flat_map path_parts (values_of settings
 abbrev pub AreAdded : List Use → List Added → Type 0
 AreAdded uses added = Match (λ (u : Use). IsAdded u.setting u.value) (filter adds uses) added
 
-abbrev pub usual_steps : ℕ
-usual_steps = 100000000
-
 -- the bound on steps, which is the usual one where none is given
 abbrev pub IsBound : List (List ℕ) → ℕ → Type 0
 IsBound [] steps = steps ≡ usual_steps
@@ -111,7 +109,7 @@ pub record IsSample (words : List (List ℕ)) (n bound : ℕ) : Type 0 where
   pub limit : List ℕ
   pub text : words ≡ verb_text verbs.Sample ∷ number ∷ limit ∷ []
   pub counts : IsNumber number n
-  pub few : (1 ≤ n) × (n ≤ 1000)
+  pub few : (1 ≤ n) × (n ≤ most_sample_modules)
   pub bounds : IsNumber limit bound
 
 -- the words are this command
@@ -120,7 +118,7 @@ IsCommand words (Resolve elements add roots) = IsResolve words elements add root
 IsCommand words (Run r) = IsRun words r
 IsCommand words (Sample n bound) = IsSample words n bound
 
--- A well-formed command line, of at most 65,536 words.
+-- A well-formed command line, which has no more words than it may have.
 pub record IsLine (words : List (List ℕ)) (c : Command) : Type 0 where
-  pub few : length words ≤ 65536
+  pub few : length words ≤ most_words
   pub command : IsCommand words c

@@ -1,8 +1,9 @@
--- Reading a command line word by word, with the first fault that is met.
+-- Reading a command line (as the options of the command `java`) word by word, with the first fault that is met.
 use Rattle.std.specs.Prelude.{ℕ, zero, suc, ◌+◌, nat_le, nat_lt, List, [], ◌∷◌, ◌++◌, length, take, drop, slice_get, position, option_map, Option, None, Some, Result, Ok, Err, Bool, true, false, not, ◌&&◌, ◌==◌, codes, is_some, if◌then◌else◌}
 use Rattle.std.specs.List.{list_all}
 use Rattle.jl_logic.specs.Order.{is_text}
 use Rattle.jl_reading.specs.Reading.{◌>>=◌}
+use Rattle.jl_prim.specs.Limits.{most_words, most_sample_modules, usual_steps}
 use Rattle.jl_prim.specs.Names.{names_a_module}
 use Rattle.jl_names.specs.Dots.{slashed}
 use Rattle.jl_words.specs.declared.command.Added.{Added}
@@ -19,7 +20,7 @@ use Rattle.jl_words.specs.declared.setting.Verb.TheVariants as verbs
 use Rattle.jl_words.specs.declared.given.Given.{Given}
 use Rattle.jl_words.specs.Settings.{verb_text, setting_text, has_setting, is_flag}
 use Rattle.jl_words.specs.Values.{path_parts, listed, number_of, is_typed_package, is_typed_class}
-use Rattle.jl_words.specs.Line.{begins_with_dash, usual_steps}
+use Rattle.jl_words.specs.Line.{begins_with_dash}
 
 -- what an error tells: the fault, or nothing for want of memory
 abbrev pub told : WordFault → Option WordFault
@@ -221,7 +222,7 @@ number_or what (Some word) at = by (number_of word) where
 unfoldable pub sample_at : List (List ℕ) → ℕ → Result Command WordFault
 sample_at words at = do
   n ← number_or (codes "N") (slice_get words at) at
-  if not (nat_le 1 n && nat_le n 1000) then Err (faults.BadNumber at) else (do
+  if not (nat_le 1 n && nat_le n most_sample_modules) then Err (faults.BadNumber at) else (do
     bound ← number_or (codes "BOUND") (slice_get words (at + 1)) (at + 1)
     if nat_lt (at + 2) (length words) then Err (faults.UnknownWord (at + 2)) else Ok (Sample n bound))
 
@@ -250,10 +251,10 @@ line_read (w ∷ ws) = verb_or (verb_of w) (w ∷ ws)
 
 -- a word too many stands before what is missing
 abbrev pub past_most : Result Command WordFault → Result Command WordFault
-past_most (Ok c) = Err (faults.UnknownWord 65536)
-past_most (Err (faults.Missing what)) = Err (faults.UnknownWord 65536)
+past_most (Ok c) = Err (faults.UnknownWord most_words)
+past_most (Err (faults.Missing what)) = Err (faults.UnknownWord most_words)
 past_most (Err f) = Err f
 
 -- the command that words are, or the first fault
 unfoldable pub words_read : List (List ℕ) → Result Command WordFault
-words_read words = if nat_le (length words) 65536 then line_read words else past_most (line_read (take 65536 words))
+words_read words = if nat_le (length words) most_words then line_read words else past_most (line_read (take most_words words))

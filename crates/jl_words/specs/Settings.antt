@@ -1,4 +1,4 @@
--- The options of the commands.
+-- The options of the commands (as those of the command `java`).
 use Rattle.std.specs.Prelude.{ℕ, List, Bool, true, false, codes}
 use Rattle.jl_words.specs.declared.setting.Setting.{Setting}
 use Rattle.jl_words.specs.declared.setting.Setting.TheVariants.{ModulePath, AddModules, AddReads, AddExports, AddOpens, Steps, Report}

@@ -1,4 +1,4 @@
--- The values of options and the operands: what their texts mean.
+-- The values of options and the operands (as those of the command `java`): what their texts mean.
 use Rattle.std.specs.Prelude.{◌≡◌, ℕ, ◌+◌, ◌-◌, ◌*◌, ◌<◌, ◌^◌, nat_le, nat_lt, List, [], ◌∷◌, ◌++◌, length, filter, Option, None, Some, Bool, not, ◌&&◌, ◌==◌, IsTrue, if◌then◌else◌}
 use Rattle.std.specs.List.{list_all, list_any}
 use Rattle.jl_prim.specs.Names.{names_a_module}

@@ -4,6 +4,7 @@
 mod command;
 mod fault;
 mod given;
+mod law;
 mod operands;
 mod options;
 mod reading;
@@ -13,4 +14,5 @@ mod texts;
 
 pub use command::{Added, Command, RunWords};
 pub use fault::WordFault;
+pub use law::{no_line, no_line_begins};
 pub use reading::read_words;

@@ -1,6 +1,6 @@
 use Rattle.std.proofs.Common.{◌≡◌, ◌≤◌, ◌⊎◌, List, Some, ◌-◌, IsTrue}
 use Rattle.jl_tree.specs.Files.{File}
-use Rattle.jl_finder.specs.Observed.{most_folders}
+use Rattle.jl_prim.specs.Limits.{most_folders}
 use Rattle.jl_finder.specs.Scanning.{AreEntries}
 use Rattle.jl_finder.proofs.Walks.{IsWalking}
 use Rattle.jl_finder.proofs.walk.walk.Given as goal

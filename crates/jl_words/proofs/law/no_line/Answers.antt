@@ -1,0 +1,5 @@
+use Rattle.jl_words.proofs.FaultLaws as laws
+use Rattle.jl_words.proofs.law.no_line.Goals as goal
+
+pub returns : goal.returns
+returns c = laws.no_line
