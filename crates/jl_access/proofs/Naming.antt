@@ -1,14 +1,15 @@
 -- A denial names the first condition that fails, and what a grant between two modules is.
-use Rattle.std.proofs.Common.{◌≡◌, List, [], ◌∷◌, ◌++◌, Bool, true, false, if◌then◌else◌, refl, sym, ◌∙◌, ap, ap₂, true≢false}
+use Rattle.std.proofs.Common.{◌≡◌, ℕ, Option, List, [], ◌∷◌, ◌++◌, Bool, true, false, if◌then◌else◌, refl, sym, ◌∙◌, ap, ap₂, true≢false}
 use Rattle.std.specs.Prelude.{◌↔◌}
 use Rattle.std.specs.List.{AllByRecursion}
+use Rattle.jl_prim.specs.declared.numbers.ModuleId.{ModuleId}
 use Rattle.jl_access.specs.declared.verdict.Place.{Place}
 use Rattle.jl_access.specs.declared.verdict.MemberAccess.{MemberAccess}
 use Rattle.jl_access.specs.declared.verdict.Rule.{Rule}
 use Rattle.jl_access.specs.declared.verdict.Rule.TheVariants as rules
 use Rattle.jl_access.specs.declared.verdict.Verdict.TheVariants.{Granted, Denied}
-use Rattle.jl_access.specs.Facts.{State, opened}
-use Rattle.jl_access.specs.Verdicts.{judged, then_judged, member_conditions, by_its_class, reflect_verdict, reflect_conditions, may_go_deep, deep_verdict}
+use Rattle.jl_access.specs.Facts.{State, opened, uses}
+use Rattle.jl_access.specs.Verdicts.{judged, then_judged, member_conditions, by_its_class, reflect_verdict, reflect_conditions, may_go_deep, deep_verdict, service_verdict, may_change, caller_verdict}
 use Rattle.jl_access.specs.Laws.{FailsFirst}
 
 -- ---- the first that fails
@@ -71,3 +72,17 @@ deep_closed f from to public a = deeper_closed (may_go_deep f from to public a) 
 pub deep_to_others : (f : State) (from to : Place) (public : Bool) (a : MemberAccess)
     → (deep_verdict f from to public a ≡ Denied rules.NotOpenTo) ↔ ((may_go_deep f from to public a ≡ false) × (opened f to.module to.package ≡ true))
 deep_to_others f from to public a = deeper_to_others (may_go_deep f from to public a) (opened f to.module to.package)
+
+-- ---- services and changes
+
+one_condition : (b : Bool) (q r : Rule) → (judged ((b, q) ∷ []) ≡ Denied r) ↔ ((b ≡ false) × (r ≡ q))
+one_condition true q r = (λ e. absurd cc, λ h. absurd (true≢false h.0))
+one_condition false q r = (λ e. (refl, sym (denied_is q r e)), λ h. ap (λ x. Denied x) (sym h.1))
+
+pub services_named : (f : State) (from : ModuleId) (service : List ℕ) (r : Rule)
+    → (service_verdict f from service ≡ Denied r) ↔ ((uses f from service ≡ false) × (r ≡ rules.ServiceNotUsed))
+services_named f from service r = one_condition (uses f from service) rules.ServiceNotUsed r
+
+pub changes_named : (f : State) (from to : ModuleId) (opens : Option (List ℕ)) (r : Rule)
+    → (caller_verdict f from to opens ≡ Denied r) ↔ ((may_change f from to opens ≡ false) × (r ≡ rules.CallerNotAllowed))
+changes_named f from to opens r = one_condition (may_change f from to opens) rules.CallerNotAllowed r

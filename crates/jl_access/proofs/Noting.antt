@@ -6,7 +6,7 @@ use Rattle.std.proofs.lemmas.List.{map-append, append-nil}
 use Rattle.std.proofs.lemmas.List.Elements.{filter-append}
 use Rattle.std.proofs.lemmas.List.Folds.{list_any-append}
 use Rattle.indexmap.specs.IndexMap.{insert_entry}
-use Rattle.jl_logic.specs.Counts.{last_count}
+use Rattle.jl_logic.specs.Counts.{last_count, raised}
 use Rattle.jl_access.specs.declared.report.Key.{Key}
 use Rattle.jl_access.specs.contracts.report.KeyPartialEq.TheImpl as keys
 use Rattle.jl_access.specs.Counting.{after_note}
@@ -135,7 +135,7 @@ firsts_with before (m ∷ ns) n =
 
 -- ---- counts
 
-counted_with : (notes : List Note) (n : Note) (k : Key) (b : Bool) → has_key k n ≡ b → counted_notes (notes ++ n ∷ []) k ≡ (if b then min (counted_notes notes k + 1) last_count else counted_notes notes k)
+counted_with : (notes : List Note) (n : Note) (k : Key) (b : Bool) → has_key k n ≡ b → counted_notes (notes ++ n ∷ []) k ≡ (if b then raised (counted_notes notes k) else counted_notes notes k)
 counted_with notes n k true e =
     let more : length (filter (has_key k) (notes ++ n ∷ [])) ≡ length (filter (has_key k) notes) + 1 =
     ap length (filter-append (has_key k) notes (n ∷ [])) ∙ length-append (filter (has_key k) notes) (filter (has_key k) (n ∷ [])) ∙ ap (λ b. length (filter (has_key k) notes) + length (cond b (n ∷ []) [])) e in
@@ -208,7 +208,7 @@ module _ (notes : List Note) (n : Note) where
 
   one_line : list_any (has_key n.key) notes ≡ false → line_of (notes ++ n ∷ []) n ≡ new_line
   unfolding new_line
-  one_line e = ap (λ c. record { key = n.key; first = n.step; count = c }) (counted_with notes n n.key true (same_itself n.key) ∙ ap (λ c. min (c + 1) last_count) (counted_none notes n.key e) ∙ omega arith)
+  one_line e = ap (λ c. record { key = n.key; first = n.step; count = c }) (counted_with notes n n.key true (same_itself n.key) ∙ ap raised (counted_none notes n.key e) ∙ omega arith)
 
   all_lines : (b : Bool) (fs : List Note) → list_any (has_key n.key) notes ≡ b → map (line_of (notes ++ n ∷ [])) (if b then fs else fs ++ n ∷ []) ≡ map bumped fs ++ (if b then [] else new_line ∷ [])
   all_lines true fs e = map_alike (line_of (notes ++ n ∷ [])) bumped fs line_with ∙ sym (append-nil (map bumped fs))

@@ -14,7 +14,7 @@ use Rattle.jl_access.specs.declared.verdict.Rule.{Rule}
 use Rattle.jl_access.specs.declared.verdict.Rule.TheVariants as rules
 use Rattle.jl_access.specs.declared.verdict.Verdict.{Verdict}
 use Rattle.jl_access.specs.declared.verdict.Verdict.TheVariants.{Granted, Denied}
-use Rattle.jl_access.specs.Facts.{State, Declared, Adds, Grows, numbered, is_open_in, packages_in, has_package, is_open_module, is_same, says_reads, says_opens, says_exports, says_uses, anywhere, reach_to, reads, opened, open_to, exported, exported_to, uses}
+use Rattle.jl_access.specs.Facts.{State, Declared, Adds, Grows, numbered, is_open_in, packages_in, has_package, is_open_module, is_same, says_reads, says_opens, says_exports, says_uses, reaches_all, anywhere, reach_to, reads, opened, open_to, open_to_all, exported, exported_to, exported_to_all, asked_open, asked_exported, uses}
 use Rattle.jl_access.proofs.Lists.{front_place}
 use Rattle.jl_access.specs.Verdicts.{judged, then_judged, class_verdict, within_module, beyond_reading, is_one_module, member_verdict, by_its_class, reflect_verdict, reflect_conditions, is_shown, is_shown_to, may_go_deep, deep_verdict, service_verdict, caller_verdict}
 
@@ -31,6 +31,10 @@ or_stays false b c d f g e = ap (λ x. c || x) (g e) ∙ or_true c
 and_stays : (a b d : Bool) → (b ≡ true → d ≡ true) → (a && b) ≡ true → (a && d) ≡ true
 and_stays true b d g e = g e
 and_stays false b d g e = e
+
+both_stay : (a b c d : Bool) → (a ≡ true → c ≡ true) → (b ≡ true → d ≡ true) → (a && b) ≡ true → (c && d) ≡ true
+both_stay true b c d f g e = ap (λ x. x && d) (f refl) ∙ g e
+both_stay false b c d f g e = absurd cc
 
 -- ---- facts
 
@@ -87,6 +91,20 @@ module _ (f g : State) (grows : Grows f g) where
 
   pub exported_to_stays : (m : ModuleId) (p : List ℕ) (c : ModuleId) → exported_to f m p c ≡ true → exported_to g m p c ≡ true
   exported_to_stays m p c = or_stays (open_to f m p c) (list_any (says_exports (reach_to c) m p) f.statements) (open_to g m p c) (list_any (says_exports (reach_to c) m p) g.statements) (open_to_stays m p c) (more (says_exports (reach_to c) m p))
+
+  pub open_to_all_stays : (m : ModuleId) (p : List ℕ) → open_to_all f m p ≡ true → open_to_all g m p ≡ true
+  open_to_all_stays m p = or_stays (is_open_module f m) (list_any (says_opens reaches_all m p) f.statements) (is_open_module g m) (list_any (says_opens reaches_all m p) g.statements) (open_stays m) (more (says_opens reaches_all m p))
+
+  pub exported_to_all_stays : (m : ModuleId) (p : List ℕ) → exported_to_all f m p ≡ true → exported_to_all g m p ≡ true
+  exported_to_all_stays m p = or_stays (open_to_all f m p) (list_any (says_exports reaches_all m p) f.statements) (open_to_all g m p) (list_any (says_exports reaches_all m p) g.statements) (open_to_all_stays m p) (more (says_exports reaches_all m p))
+
+  pub asked_open_stays : (m : ModuleId) (p : List ℕ) (to : Option ModuleId) → asked_open f m p to ≡ true → asked_open g m p to ≡ true
+  asked_open_stays m p None = both_stay (has_package f m p) (open_to_all f m p) (has_package g m p) (open_to_all g m p) (packages_stay m p) (open_to_all_stays m p)
+  asked_open_stays m p (Some c) = both_stay (has_package f m p) (open_to f m p c) (has_package g m p) (open_to g m p c) (packages_stay m p) (open_to_stays m p c)
+
+  pub asked_exported_stays : (m : ModuleId) (p : List ℕ) (to : Option ModuleId) → asked_exported f m p to ≡ true → asked_exported g m p to ≡ true
+  asked_exported_stays m p None = both_stay (has_package f m p) (exported_to_all f m p) (has_package g m p) (exported_to_all g m p) (packages_stay m p) (exported_to_all_stays m p)
+  asked_exported_stays m p (Some c) = both_stay (has_package f m p) (exported_to f m p c) (has_package g m p) (exported_to g m p c) (packages_stay m p) (exported_to_stays m p c)
 
   pub uses_stay : (m : ModuleId) (t : List ℕ) → uses f m t ≡ true → uses g m t ≡ true
   uses_stay m t = more (says_uses m t)

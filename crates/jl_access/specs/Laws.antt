@@ -8,8 +8,8 @@ use Rattle.jl_access.specs.declared.verdict.MemberAccess.{MemberAccess}
 use Rattle.jl_access.specs.declared.verdict.Rule.{Rule}
 use Rattle.jl_access.specs.declared.verdict.Rule.TheVariants as rules
 use Rattle.jl_access.specs.declared.verdict.Verdict.TheVariants.{Granted, Denied}
-use Rattle.jl_access.specs.Facts.{State, Declared, Adds, Grows, has_package, reads, opened, open_to, exported, exported_to, uses}
-use Rattle.jl_access.specs.Verdicts.{class_verdict, class_conditions, member_verdict, member_conditions, reflect_verdict, reflect_conditions, by_its_class, deep_verdict, is_shown, may_go_deep, service_verdict, caller_verdict, is_one_module}
+use Rattle.jl_access.specs.Facts.{State, Declared, Adds, Grows, has_package, reads, opened, open_to, open_to_all, exported, exported_to, exported_to_all, asked_open, asked_exported, uses}
+use Rattle.jl_access.specs.Verdicts.{class_verdict, class_conditions, member_verdict, member_conditions, reflect_verdict, reflect_conditions, by_its_class, deep_verdict, is_shown, may_go_deep, service_verdict, may_change, caller_verdict, is_one_module}
 
 -- What holds of modules goes on to hold. Each statement and each module that is added lets facts grow, and so does one growth after another.
 pub record FactsStay : Type 0 where
@@ -22,6 +22,10 @@ pub record FactsStay : Type 0 where
   pub opening_to : (f g : State) (m : ModuleId) (p : List ℕ) (c : ModuleId) → Grows f g → open_to f m p c ≡ true → open_to g m p c ≡ true
   pub exporting : (f g : State) (m : ModuleId) (p : List ℕ) → Grows f g → exported f m p ≡ true → exported g m p ≡ true
   pub exporting_to : (f g : State) (m : ModuleId) (p : List ℕ) (c : ModuleId) → Grows f g → exported_to f m p c ≡ true → exported_to g m p c ≡ true
+  pub opening_to_all : (f g : State) (m : ModuleId) (p : List ℕ) → Grows f g → open_to_all f m p ≡ true → open_to_all g m p ≡ true
+  pub exporting_to_all : (f g : State) (m : ModuleId) (p : List ℕ) → Grows f g → exported_to_all f m p ≡ true → exported_to_all g m p ≡ true
+  pub asking_of_openings : (f g : State) (m : ModuleId) (p : List ℕ) (to : Option ModuleId) → Grows f g → asked_open f m p to ≡ true → asked_open g m p to ≡ true
+  pub asking_of_exports : (f g : State) (m : ModuleId) (p : List ℕ) (to : Option ModuleId) → Grows f g → asked_exported f m p to ≡ true → asked_exported g m p to ≡ true
   pub using : (f g : State) (m : ModuleId) (service : List ℕ) → Grows f g → uses f m service ≡ true → uses g m service ≡ true
 
 -- What is granted stays granted after any further modules and statements.
@@ -56,6 +60,10 @@ pub record DenialsName : Type 0 where
       → (deep_verdict f from to public a ≡ Denied rules.NotOpen) ↔ ((may_go_deep f from to public a ≡ false) × (opened f to.module to.package ≡ false))
   pub deep_to_others : (f : State) (from to : Place) (public : Bool) (a : MemberAccess)
       → (deep_verdict f from to public a ≡ Denied rules.NotOpenTo) ↔ ((may_go_deep f from to public a ≡ false) × (opened f to.module to.package ≡ true))
+  pub services : (f : State) (from : ModuleId) (service : List ℕ) (r : Rule)
+      → (service_verdict f from service ≡ Denied r) ↔ ((uses f from service ≡ false) × (r ≡ rules.ServiceNotUsed))
+  pub changes : (f : State) (from to : ModuleId) (opens : Option (List ℕ)) (r : Rule)
+      → (caller_verdict f from to opens ≡ Denied r) ↔ ((may_change f from to opens ≡ false) × (r ≡ rules.CallerNotAllowed))
 
 -- Between two modules a class is granted exactly where the caller's module reads the other, the package is exported to it and the class is public.
 abbrev pub GrantsByThree : Type 0

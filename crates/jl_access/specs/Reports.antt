@@ -1,7 +1,7 @@
 -- The report of the checks of JVMS 5.4.4 and `java.lang.Module`: notes grouped by key, in the order in which keys first occur.
-use Rattle.std.specs.Prelude.{ℕ, ◌+◌, List, [], ◌∷◌, ◌++◌, length, map, filter, Option, None, Some, Bool, true, false, ◌&&◌, ◌==◌, not, min, if◌then◌else◌}
+use Rattle.std.specs.Prelude.{ℕ, List, [], ◌∷◌, ◌++◌, length, map, filter, Option, None, Some, Bool, true, false, ◌&&◌, ◌==◌, not, min, if◌then◌else◌}
 use Rattle.std.specs.List.{list_any}
-use Rattle.jl_logic.specs.Counts.{last_count}
+use Rattle.jl_logic.specs.Counts.{last_count, raised}
 use Rattle.jl_logic.specs.Order.{is_text}
 use Rattle.jl_prim.specs.declared.numbers.ModuleId.{ModuleId}
 use Rattle.jl_access.specs.declared.report.Key.{Key}
@@ -97,7 +97,7 @@ lines_of notes = map (line_of notes) (firsts [] notes)
 
 -- the line with one note more
 abbrev pub one_more : Line → Line
-one_more l = record l { count = min (l.count + 1) last_count }
+one_more l = record l { count = raised l.count }
 
 -- the lines with one note more
 unfoldable pub noted : Key → ℕ → List Line → List Line

@@ -1,5 +1,5 @@
 use Rattle.jl_access.specs.Verdicts.{class_conditions, member_conditions}
-use Rattle.jl_access.proofs.Naming.{denied_first, reflection_first, deep_closed, deep_to_others}
+use Rattle.jl_access.proofs.Naming.{denied_first, reflection_first, deep_closed, deep_to_others, services_named, changes_named}
 use Rattle.jl_access.proofs.law.denials_name_their_rules.Goals as goal
 
 pub returns : goal.returns
@@ -9,4 +9,6 @@ returns c = record {
   reflection = reflection_first;
   deep_closed = deep_closed;
   deep_to_others = deep_to_others;
+  services = services_named;
+  changes = changes_named;
 }
