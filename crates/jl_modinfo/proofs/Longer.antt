@@ -6,7 +6,7 @@ use Rattle.byteorder.specs.Endian.{big_number}
 use Rattle.std.proofs.lemmas.List.{length-take-le, length-append}
 use Rattle.jl_reading.specs.Reading.{◌>>=◌, number_at, each_at, steps_at}
 use Rattle.jl_reading.specs.Appended.{Appends, IsPast, Stays}
-use Rattle.jl_reading.proofs.Appended.{number_appends, bind_appends, given_appends, fault_appends, cond_appends, each_appends, steps_appends, part_appends, appends_as, mapped_appends, widened_appends, ReadsPart, bind_err, bind_as, bind_fails, past_fault, not_both, err_is, failed}
+use Rattle.jl_reading.proofs.Appended.{number_appends, bind_appends, bind_within, given_appends, fault_appends, cond_appends, each_appends, steps_appends, part_appends, appends_as, mapped_appends, widened_appends, ReadsPart, bind_err, bind_as, bind_fails, past_fault, not_both, err_is, failed}
 use Rattle.jl_reading.proofs.Steps.{bind_ok, guard_ok, ok_is}
 use Rattle.jl_prim.specs.declared.declaration.Requires.{Requires}
 use Rattle.jl_prim.specs.declared.declaration.Grant.{Grant}
@@ -34,28 +34,28 @@ use Rattle.jl_modinfo.specs.Faults.{short, of_pool, pool_or, named_or}
 use Rattle.jl_modinfo.specs.Meaning.{module_named, package_named, class_text, version_named, is_set, is_module_info, is_among, targets_of}
 use Rattle.jl_modinfo.specs.Rules.{keeps_base_rule, missing_package}
 use Rattle.jl_modinfo.specs.Reading.{front_at, zero_at, this_at, empty_class_at, name_at, new_name_at, names_at, version_at, requires_at, requires_table_at, grant_at, grants_at, opened_named, implementations_at, provides_at, provides_table_at, ended, module_at, packages_at, main_at, form_of, form_name, part_at, is_first, reader_of, attributes_in, attributes_at, whole, ruled, all_there, or_found, declaration_of, info_of}
-use Rattle.jl_modinfo.specs.Longer.{cut_at, is_lasting, IsReadPast, Lasts, ReadsLonger}
+use Rattle.jl_modinfo.specs.Longer.{cut_at, is_lasting, LiesInContent, IsReadPast, Lasts, ReadsLonger}
 
 abbrev Longer : {A : Type 0} → ℕ → (List ℕ → Result (A × ℕ) InfoFault) → Type 0
-Longer {A} at reading = Appends cut_at (λ (x : A × ℕ). x.1) ⊤ at reading
+Longer {A} at reading = Appends cut_at (λ (x : A × ℕ). x.1) LiesInContent at reading
 
 abbrev Moved : ℕ → (List ℕ → Result ℕ InfoFault) → Type 0
-Moved at reading = Appends cut_at (λ (x : ℕ). x) ⊤ at reading
+Moved at reading = Appends cut_at (λ (x : ℕ). x) LiesInContent at reading
 
 number : (k at : ℕ) → Longer at (λ bytes. number_at short k bytes at)
-number k at = number_appends cut_at ⊤ short (λ p. refl) k at
+number k at = number_appends cut_at LiesInContent short (λ p. refl) k at
 
 then : {A B : Type 0} (at : ℕ) (f : List ℕ → Result (A × ℕ) InfoFault) (g : A × ℕ → List ℕ → Result (B × ℕ) InfoFault) → Longer at f → ((x : A × ℕ) → Longer x.1 (g x)) → Longer at (λ bytes. f bytes >>= λ x. g x bytes)
-then {A} {B} at f g a b = bind_appends cut_at ⊤ (λ (x : A × ℕ). x.1) (λ (x : B × ℕ). x.1) at f g a b
+then {A} {B} at f g a b = bind_appends cut_at LiesInContent (λ (x : A × ℕ). x.1) (λ (x : B × ℕ). x.1) at f g a b
 
 value : {A : Type 0} (x : A) (at : ℕ) → Longer at (λ (bytes : List ℕ). Ok (x, at))
-value {A} x at = given_appends cut_at ⊤ (λ (y : A × ℕ). y.1) at (x, at) refl
+value {A} x at = given_appends cut_at LiesInContent (λ (y : A × ℕ). y.1) at (x, at) refl
 
 wrong : {A : Type 0} (at : ℕ) (f : InfoFault) → cut_at f ≡ None → Longer {A = A} at (λ bytes. failed f)
-wrong {A} at f e = fault_appends cut_at ⊤ (λ (x : A × ℕ). x.1) at f e
+wrong {A} at f e = fault_appends cut_at LiesInContent (λ (x : A × ℕ). x.1) at f e
 
 either : {A : Type 0} (at : ℕ) (b : Bool) (f g : List ℕ → Result (A × ℕ) InfoFault) → Longer at f → Longer at g → Longer at (λ bytes. cond b (f bytes) (g bytes))
-either {A} at b f g a c = cond_appends cut_at ⊤ (λ (x : A × ℕ). x.1) at b f g a c
+either {A} at b f g a c = cond_appends cut_at LiesInContent (λ (x : A × ℕ). x.1) at b f g a c
 
 -- a name or a version by an index
 by_name : {A : Type 0} (place at : ℕ) (o : Option A) → Longer at (λ (bytes : List ℕ). named_or place o >>= λ x. Ok (x, at))
@@ -73,7 +73,7 @@ new_name table named pool done at =
     (λ x. either x.1 (is_among x.0 done) (λ bytes. failed (faults.Repeated table x.0)) (λ bytes. Ok x) (wrong x.1 (faults.Repeated table x.0) refl) (value x.0 x.1))
 
 counted_names : (table : List ℕ) (named : List Entry → ℕ → Option (List ℕ)) (pool : List Entry) (count at : ℕ) → Longer at (λ bytes. each_at (new_name_at table named pool bytes) [] count at)
-counted_names table named pool count at = each_appends cut_at ⊤ (λ bytes. new_name_at table named pool bytes) (λ done p. new_name table named pool done p) count [] at
+counted_names table named pool count at = each_appends cut_at LiesInContent (λ bytes. new_name_at table named pool bytes) (λ done p. new_name table named pool done p) count [] at
 
 names : (table : List ℕ) (named : List Entry → ℕ → Option (List ℕ)) (pool : List Entry) (at : ℕ) → Longer at (λ bytes. names_at table named pool bytes at)
 unfolding names_at
@@ -98,7 +98,7 @@ requires_table : (pool : List Entry) (at : ℕ) → Longer at (λ bytes. require
 unfolding requires_table_at
 requires_table pool at =
     then at (λ bytes. number_at short 2 bytes at) (λ count bytes. each_at (requires_at pool bytes) [] count.0 count.1) (number 2 at)
-    (λ count. each_appends cut_at ⊤ (λ bytes. requires_at pool bytes) (λ done p. requires pool done p) count.0 [] count.1)
+    (λ count. each_appends cut_at LiesInContent (λ bytes. requires_at pool bytes) (λ done p. requires pool done p) count.0 [] count.1)
 
 grant : (table : List ℕ) (named : List Entry → ℕ → Option (List ℕ)) (pool : List Entry) (done : List Grant) (at : ℕ) → Longer at (λ bytes. grant_at table named pool bytes done at)
 unfolding grant_at
@@ -112,7 +112,7 @@ grants : (table : List ℕ) (named : List Entry → ℕ → Option (List ℕ)) (
 unfolding grants_at
 grants table named pool at =
     then at (λ bytes. number_at short 2 bytes at) (λ count bytes. each_at (grant_at table named pool bytes) [] count.0 count.1) (number 2 at)
-    (λ count. each_appends cut_at ⊤ (λ bytes. grant_at table named pool bytes) (λ done p. grant table named pool done p) count.0 [] count.1)
+    (λ count. each_appends cut_at LiesInContent (λ bytes. grant_at table named pool bytes) (λ done p. grant table named pool done p) count.0 [] count.1)
 
 implementations : (pool : List Entry) (at : ℕ) → Longer at (λ bytes. implementations_at pool bytes at)
 unfolding implementations_at
@@ -132,7 +132,7 @@ provides_table : (pool : List Entry) (at : ℕ) → Longer at (λ bytes. provide
 unfolding provides_table_at
 provides_table pool at =
     then at (λ bytes. number_at short 2 bytes at) (λ count bytes. each_at (provides_at pool bytes) [] count.0 count.1) (number 2 at)
-    (λ count. each_appends cut_at ⊤ (λ bytes. provides_at pool bytes) (λ done p. provides pool done p) count.0 [] count.1)
+    (λ count. each_appends cut_at LiesInContent (λ bytes. provides_at pool bytes) (λ done p. provides pool done p) count.0 [] count.1)
 
 -- ---- contents
 
@@ -286,10 +286,30 @@ part_content pool forms.MainClass at = content_made at (λ bytes. main_at pool b
 
 -- ---- attributes
 
-passed_law : {A : Type 0} (start n : ℕ) (x : A) → ReadsPart cut_at ⊤ (λ (y : A × ℕ). y.1) short start n 0 (λ window. Ok (x, start + n))
+-- a place in a content of n bytes from a place on
+record LiesIn (start n : ℕ) (bytes : List ℕ) (p : ℕ) : Type 0 where
+  within : (start ≤ p) × (p ≤ start + n)
+  whole : (start + n ≤ length bytes) ⊎ ((n < 2) × (p ≡ start))
+
+-- the length that was read stands before it
+lies : (at : ℕ) (bytes : List ℕ) (len : ℕ × ℕ) (p : ℕ) → number_at short 4 bytes at ≡ Ok len → LiesIn len.1 len.0 bytes p → LiesInContent bytes p
+lies at bytes len p e in_part =
+    let g = guard_ok (ltb (length bytes) (at + 4)) (faults.Short at) (Ok (big_number 4 (drop at bytes), at + 4)) len e in
+    let is : (big_number 4 (drop at bytes), at + 4) ≡ len = ok_is (big_number 4 (drop at bytes), at + 4) len g.1 in
+    let starts : at + 4 ≡ len.1 = ap (λ (x : ℕ × ℕ). x.1) is in
+    record {
+      at = at;
+      size = len.0;
+      is_length = ap (λ (x : ℕ × ℕ). x.0) is;
+      within = subst (λ (s : ℕ). (s ≤ p) × (p ≤ s + len.0)) (sym starts) in_part.within;
+      whole = subst (λ (s : ℕ). (s + len.0 ≤ length bytes) ⊎ ((len.0 < 2) × (p ≡ s))) (sym starts) in_part.whole;
+    }
+
+passed_law : {A : Type 0} (start n : ℕ) (x : A) → ReadsPart cut_at (LiesIn start n) (λ (y : A × ℕ). y.1) short start n 0 (λ window. Ok (x, start + n))
 passed_law start n x = record {
   read = λ bytes y le e. sym (ap (λ z. z.1) (ok_is (x, start + n) y e));
   cut = λ bytes d p le e some. not_both (x, start + n) d e;
+  few = λ bytes le few. absurd (omega (arith, few));
   less = λ bytes le few. absurd (omega (arith, few));
   enough = λ bytes le pos fits. omega (arith, pos);
 }
@@ -306,16 +326,18 @@ content_then {A} bytes at k (Ok len) = by (ltb (length bytes) (len.1 + len.0))
     by false = refl
 
 content_longer : {A : Type 0} (at : ℕ) (k : (List ℕ × ℕ) × ℕ → Result (A × ℕ) InfoFault) (few : ℕ)
-    → ((start n : ℕ) → ReadsPart cut_at ⊤ (λ (x : A × ℕ). x.1) short start n few (λ window. k ((window, start), start + n))) → Longer at (λ bytes. content_at short bytes at >>= k)
+    → ((start n : ℕ) → ReadsPart cut_at (LiesIn start n) (λ (x : A × ℕ). x.1) short start n few (λ window. k ((window, start), start + n))) → Longer at (λ bytes. content_at short bytes at >>= k)
 unfolding content_at
 content_longer {A} at k few law =
-    appends_as cut_at ⊤ (λ (x : A × ℕ). x.1) at
+    appends_as cut_at LiesInContent (λ (x : A × ℕ). x.1) at
     (λ bytes. number_at short 4 bytes at >>= λ len. cond (ltb (length bytes) (len.1 + len.0)) (Err (short len.1)) (k ((take (len.1 + len.0) bytes, len.1), len.1 + len.0)))
     (λ bytes. content_at short bytes at >>= k) (λ bytes. sym (content_then bytes at k (number_at short 4 bytes at)))
-    (then at (λ bytes. number_at short 4 bytes at) (λ len bytes. cond (ltb (length bytes) (len.1 + len.0)) (Err (short len.1)) (k ((take (len.1 + len.0) bytes, len.1), len.1 + len.0))) (number 4 at)
-    (λ len. part_appends cut_at ⊤ (λ (x : A × ℕ). x.1) short (λ p. refl) len.1 len.0 few (λ window. k ((window, len.1), len.1 + len.0)) (law len.1 len.0)))
+    (bind_within cut_at LiesInContent (λ (len : ℕ × ℕ). LiesIn len.1 len.0) (λ (x : ℕ × ℕ). x.1) (λ (x : A × ℕ). x.1) at (λ bytes. number_at short 4 bytes at)
+    (λ len bytes. cond (ltb (length bytes) (len.1 + len.0)) (Err (short len.1)) (k ((take (len.1 + len.0) bytes, len.1), len.1 + len.0)))
+    (λ bytes len p e w. lies at bytes len p e w) (number 4 at)
+    (λ len. part_appends cut_at (LiesIn len.1 len.0) (λ (x : A × ℕ). x.1) short (λ p. refl) len.1 len.0 few (λ window. k ((window, len.1), len.1 + len.0)) (law len.1 len.0)))
 
-added : (done : List Part) (start n : ℕ) (f : List ℕ → Result Part InfoFault) → Content start f → ReadsPart cut_at ⊤ (λ (x : List Part × ℕ). x.1) short start n 2 (λ window. f window >>= λ v. Ok (done ++ v ∷ [], start + n))
+added : (done : List Part) (start n : ℕ) (f : List ℕ → Result Part InfoFault) → Content start f → ReadsPart cut_at (LiesIn start n) (λ (x : List Part × ℕ). x.1) short start n 2 (λ window. f window >>= λ v. Ok (done ++ v ∷ [], start + n))
 added done start n f c = record {
   read = λ bytes x le e.
       let o = bind_ok (f (take (start + n) bytes)) (λ v. Ok (done ++ v ∷ [], start + n)) x e in
@@ -323,19 +345,20 @@ added done start n f c = record {
   cut = λ bytes d p le e some.
       let long = length-take-le (start + n) bytes le in
       elim (bind_err (f (take (start + n) bytes)) (λ v. Ok (done ++ v ∷ [], start + n)) d e) [
-        | inl h ↦ (let k = c.cuts.cut (take (start + n) bytes) d p (omega (arith, long)) h some in let high = k.1 in (tt, k.0, omega (arith, long, high)))
+        | inl h ↦ (let k = c.cuts.cut (take (start + n) bytes) d p (omega (arith, long)) h some in let low = k.0 in let high = k.1 in (record { within = (low, omega (arith, long, high)); whole = inl le }, low, omega (arith, long, high)))
         | inr k ↦ not_both (done ++ k.0 ∷ [], start + n) d k.2
       ];
+  few = λ bytes le few. record { within = (omega arith, omega arith); whole = inr (few, refl) };
   less = λ bytes le few.
       let long = length-take-le (start + n) bytes le in
-      (tt, bind_fails (λ v. Ok (done ++ v ∷ [], start + n)) (c.opens.less (take (start + n) bytes) (omega (arith, long, few))));
+      bind_fails (λ v. Ok (done ++ v ∷ [], start + n)) (c.opens.less (take (start + n) bytes) (omega (arith, long, few)));
   enough = λ bytes le pos fits. past (take (start + n) bytes) (length-take-le (start + n) bytes le) pos fits (f (take (start + n) bytes)) refl;
 }
   where
     past : (window : List ℕ) → length window ≡ start + n → 0 < n → 2 ≤ n → (r : Result Part InfoFault) → f window ≡ r → IsPast cut_at (λ (x : List Part × ℕ). x.1) start (f window >>= λ v. Ok (done ++ v ∷ [], start + n))
     past window long pos fits (Ok v) e = subst (λ (r : Result Part InfoFault). IsPast cut_at (λ (x : List Part × ℕ). x.1) start (r >>= λ v. Ok (done ++ v ∷ [], start + n))) (sym e) (omega (arith, pos))
     past window long pos fits (Err d) e = subst (λ (r : Result Part InfoFault). IsPast cut_at (λ (x : List Part × ℕ). x.1) start (r >>= λ v. Ok (done ++ v ∷ [], start + n))) (sym e)
-        (past_fault cut_at ⊤ {p = start} d (cut_at d) refl (λ q some. c.opens.enough window d q (omega (arith, long, fits)) e some))
+        (past_fault cut_at LiesInContent {p = start} d (cut_at d) refl (λ q some. c.opens.enough window d q (omega (arith, long, fits)) e some))
 
 formed : (pool : List Entry) (place : ℕ) (done : List Part) (at : ℕ) (o : Option Form) → Longer at (λ bytes. framing.by_form (reader_of pool) place bytes done at o)
 unfolding framing.passed_at framing.read_at
@@ -362,25 +385,25 @@ unfolding attributes_at
 attributes pool at =
     then at (λ bytes. number_at short 2 bytes at) (λ count bytes. framing.attributes_at (reader_of pool) pool count.0 bytes count.1 >>= λ read. Ok (attributes_in read.0, read.1)) (number 2 at)
     (λ count. then count.1 (λ bytes. framing.attributes_at (reader_of pool) pool count.0 bytes count.1) (λ read bytes. Ok (attributes_in read.0, read.1))
-    (steps_appends cut_at ⊤ (λ bytes. framing.attribute_at (reader_of pool) pool bytes) (λ done p. attribute pool done p) count.0 [] count.1)
+    (steps_appends cut_at LiesInContent (λ bytes. framing.attribute_at (reader_of pool) pool bytes) (λ done p. attribute pool done p) count.0 [] count.1)
     (λ read. value (attributes_in read.0) read.1))
 
 -- ---- up to the attributes
 
 moved : {A : Type 0} (at : ℕ) (f : List ℕ → Result (A × ℕ) InfoFault) (g : A × ℕ → List ℕ → Result ℕ InfoFault) → Longer at f → ((x : A × ℕ) → Moved x.1 (g x)) → Moved at (λ bytes. f bytes >>= λ x. g x bytes)
-moved {A} at f g a b = bind_appends cut_at ⊤ (λ (x : A × ℕ). x.1) (λ (x : ℕ). x) at f g a b
+moved {A} at f g a b = bind_appends cut_at LiesInContent (λ (x : A × ℕ). x.1) (λ (x : ℕ). x) at f g a b
 
 moved_on : (at : ℕ) (f : List ℕ → Result ℕ InfoFault) (g : ℕ → List ℕ → Result ℕ InfoFault) → Moved at f → ((x : ℕ) → Moved x (g x)) → Moved at (λ bytes. f bytes >>= λ x. g x bytes)
-moved_on at f g a b = bind_appends cut_at ⊤ (λ (x : ℕ). x) (λ (x : ℕ). x) at f g a b
+moved_on at f g a b = bind_appends cut_at LiesInContent (λ (x : ℕ). x) (λ (x : ℕ). x) at f g a b
 
 here : (at : ℕ) → Moved at (λ (bytes : List ℕ). Ok at)
-here at = given_appends cut_at ⊤ (λ (x : ℕ). x) at at refl
+here at = given_appends cut_at LiesInContent (λ (x : ℕ). x) at at refl
 
 not_here : (at : ℕ) (f : InfoFault) → cut_at f ≡ None → Moved at (λ bytes. failed f)
-not_here at f e = fault_appends cut_at ⊤ (λ (x : ℕ). x) at f e
+not_here at f e = fault_appends cut_at LiesInContent (λ (x : ℕ). x) at f e
 
 one_of : (at : ℕ) (b : Bool) (f g : List ℕ → Result ℕ InfoFault) → Moved at f → Moved at g → Moved at (λ bytes. cond b (f bytes) (g bytes))
-one_of at b f g a c = cond_appends cut_at ⊤ (λ (x : ℕ). x) at b f g a c
+one_of at b f g a c = cond_appends cut_at LiesInContent (λ (x : ℕ). x) at b f g a c
 
 abbrev versions : List ℕ → ℕ → Result ((ℕ × ℕ) × ℕ) InfoFault
 versions bytes at = front_words.front_at short faults.BadMagic (λ major minor. faults.BadVersion) bytes at
@@ -426,8 +449,8 @@ pool_cut (pools.Entry i) = refl
 pool_cut pools.NoMemory = refl
 
 pool : (at : ℕ) → Longer at (λ bytes. pool_or (pool_at bytes at))
-pool at = mapped_appends pool_laws.cut_at cut_at ⊤ (λ (x : List Entry × ℕ). x.1) at (λ bytes. pool_at bytes at) pool_or of_pool (λ x. refl) (λ d. refl) pool_cut
-    (widened_appends pool_laws.cut_at ⊤ (λ (x : List Entry × ℕ). x.1) at (λ bytes. pool_at bytes at) (pool_longer at))
+pool at = mapped_appends pool_laws.cut_at cut_at LiesInContent (λ (x : List Entry × ℕ). x.1) at (λ bytes. pool_at bytes at) pool_or of_pool (λ x. refl) (λ d. refl) pool_cut
+    (widened_appends pool_laws.cut_at LiesInContent (λ (x : List Entry × ℕ). x.1) at (λ bytes. pool_at bytes at) (pool_longer at))
 
 -- ---- the whole file
 
@@ -447,14 +470,14 @@ lasting_whole faults.NoMemory e = refl
 
 rest_past : {D : Type 0} (start p : ℕ) (g : List ℕ → Result D InfoFault) → Lasts start g → p < start → (bytes : List ℕ) (r : Result D InfoFault) → start ≤ length bytes → g bytes ≡ r → IsReadPast p r
 rest_past start p g l lt bytes (Ok d) le e = tt
-rest_past start p g l lt bytes (Err f) le e = past_fault cut_at ⊤ {p = p} f (cut_at f) refl (λ q some. let c = (l.cut bytes f q le e some).0 in omega (arith, c, lt))
+rest_past start p g l lt bytes (Err f) le e = past_fault cut_at LiesInContent {p = p} f (cut_at f) refl (λ q some. let c = (l.cut bytes f q le e some).0 in omega (arith, c, lt))
 
-then_past : {A D : Type 0} (next : A → ℕ) (start p : ℕ) (f : List ℕ → Result A InfoFault) (g : A → List ℕ → Result D InfoFault) → Appends cut_at next ⊤ start f → ((x : A) → Lasts (next x) (g x))
+then_past : {A D : Type 0} (next : A → ℕ) (start p : ℕ) (f : List ℕ → Result A InfoFault) (g : A → List ℕ → Result D InfoFault) → Appends cut_at next LiesInContent start f → ((x : A) → Lasts (next x) (g x))
     → (bytes : List ℕ) (r : Result A InfoFault) → start ≤ length bytes → f bytes ≡ r → IsPast cut_at next p r → IsReadPast p (r >>= λ x. g x bytes)
 then_past next start p f g a b bytes (Ok x) le e past = rest_past (next x) p (g x) (b x) past bytes (g x bytes) (a.read bytes x le e).1 refl
 then_past next start p f g a b bytes (Err d) le e past = past
 
-lasts_then : {A D : Type 0} (next : A → ℕ) (start : ℕ) (f : List ℕ → Result A InfoFault) (g : A → List ℕ → Result D InfoFault) → Appends cut_at next ⊤ start f → ((x : A) → Lasts (next x) (g x)) → Lasts start (λ bytes. f bytes >>= λ x. g x bytes)
+lasts_then : {A D : Type 0} (next : A → ℕ) (start : ℕ) (f : List ℕ → Result A InfoFault) (g : A → List ℕ → Result D InfoFault) → Appends cut_at next LiesInContent start f → ((x : A) → Lasts (next x) (g x)) → Lasts start (λ bytes. f bytes >>= λ x. g x bytes)
 lasts_then next start f g a b = record {
   fault = λ bytes d le e lasting.
       elim (bind_err (f bytes) (λ x. g x bytes) d e) [
@@ -471,7 +494,7 @@ lasts_then next start f g a b = record {
               c.1,
               elim c.2 [
                 | inl goes ↦ inl (goes.0, goes.1, then_past next start p f g a b (bytes ++ goes.0) (f (bytes ++ goes.0)) (omega (arith, le, length-append bytes goes.0)) refl goes.2)
-                | inr w ↦ inr (λ more. bind_fails (λ x. g x (bytes ++ more)) (w.1 more ∙ h) ∙ sym e)
+                | inr w ↦ inr (w.0, λ more. bind_fails (λ x. g x (bytes ++ more)) (w.1 more ∙ h) ∙ sym e)
               ],
             )
         | inr o ↦
@@ -482,7 +505,7 @@ lasts_then next start f g a b = record {
               c.1,
               elim c.2 [
                 | inl goes ↦ inl (goes.0, goes.1, subst (λ (r : Result _ InfoFault). IsReadPast p (r >>= λ x. g x (bytes ++ goes.0))) (sym (first.2 goes.0 ∙ o.1)) goes.2)
-                | inr stays ↦ inr (λ more. bind_as (λ x. g x (bytes ++ more)) (first.2 more ∙ o.1) (stays more ∙ o.2) ∙ sym e)
+                | inr w ↦ inr (w.0, λ more. bind_as (λ x. g x (bytes ++ more)) (first.2 more ∙ o.1) (w.1 more ∙ o.2) ∙ sym e)
               ],
             )
       ];

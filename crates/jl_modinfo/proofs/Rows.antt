@@ -1,5 +1,5 @@
 -- Worked rows: the definitions on small files.
-use Rattle.std.proofs.Common.{◌≡◌, ℕ, List, [], ◌∷◌, None, Some, true, false, Ok, Err, refl}
+use Rattle.std.proofs.Common.{◌≡◌, ℕ, List, [], ◌∷◌, None, Some, true, false, Ok, Err, refl, arith, inl, inr}
 use Rattle.std.specs.Prelude.{codes}
 use Rattle.jl_reading.specs.Reading.{each_at}
 use Rattle.jl_pool.specs.declared.entry.Entry.{Entry}
@@ -9,6 +9,7 @@ use Rattle.jl_modinfo.specs.declared.fault.InfoFault.TheVariants as faults
 use Rattle.jl_modinfo.specs.Reading.{front_at, zero_at, name_at, new_name_at, version_at, requires_at, implementations_at, opened_named}
 use Rattle.jl_classfile.specs.Front as framing
 use Rattle.jl_modinfo.specs.Meaning.{module_named, targets_of}
+use Rattle.jl_modinfo.specs.Longer.{LiesInContent}
 use Rattle.jl_modinfo.specs.Rules.{keeps_base_rule}
 
 abbrev pool : List Entry
@@ -85,3 +86,14 @@ front_old_minor = refl
 front_new_minor : front_at (0xca ∷ 0xfe ∷ 0xba ∷ 0xbe ∷ 0 ∷ 1 ∷ 0 ∷ 56 ∷ []) ≡ Err faults.BadVersion
 unfolding front_at framing.front_at
 front_new_minor = refl
+
+-- ---- places in contents
+
+in_a_content : LiesInContent (0 ∷ 0 ∷ 0 ∷ 1 ∷ 7 ∷ []) 4
+in_a_content = record { at = 0; size = 1; is_length = refl; within = (omega arith, omega arith); whole = inl (omega arith) }
+
+before_a_missing_one : LiesInContent (0 ∷ 0 ∷ 0 ∷ 1 ∷ []) 4
+before_a_missing_one = record { at = 0; size = 1; is_length = refl; within = (omega arith, omega arith); whole = inr (omega arith, refl) }
+
+at_the_start : LiesInContent (0 ∷ 0 ∷ 0 ∷ 1 ∷ 7 ∷ []) 0 → ⊥
+at_the_start l = let low = l.within.0 in omega (arith, low)

@@ -11,8 +11,8 @@ pub fn files_keep_rules()
 
 /// Says what reading a declaration file answers where more bytes follow. A fault stays which is not of an
 /// end, nor of a rule that is looked at behind the end. `Short(at)` is within the bytes, and some longer
-/// file is read past it, or the length of an attribute cuts what stands there, whatever follows. There is
-/// nothing to run.
+/// file is read past it, or it stays and lies in the content of an attribute, whose length cuts what stands
+/// there. There is nothing to run.
 pub fn reads_longer()
     ensures { ReadsLonger }
 {}

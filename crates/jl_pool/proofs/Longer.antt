@@ -3,7 +3,7 @@ use Rattle.std.proofs.Common.{◌≡◌, ℕ, ◌+◌, ◌-◌, ◌<◌, Bool, c
 use Rattle.std.specs.Prelude.{position}
 use Rattle.std.proofs.lemmas.List.{drop-take}
 use Rattle.jl_reading.specs.Reading.{◌>>=◌, number_at, each_at}
-use Rattle.jl_reading.specs.Appended.{Appends, IsPast}
+use Rattle.jl_reading.specs.Appended.{Appends, IsPast, NoPart}
 use Rattle.jl_reading.proofs.Appended.{number_appends, bind_appends, given_appends, fault_appends, cond_appends, each_appends, part_appends, appends_as, ReadsPart, not_both, err_is, failed}
 use Rattle.jl_reading.proofs.Steps.{ok_is}
 use Rattle.jl_names.specs.declared.fault.TextFault.{TextFault}
@@ -21,16 +21,16 @@ after x = x.1
 
 -- what a reading of a value and the place after it is where more follows
 abbrev Longer : {A : Type 0} → ℕ → (List ℕ → Result (A × ℕ) PoolFault) → Type 0
-Longer {A} at reading = Appends cut_at (λ (x : A × ℕ). x.1) ⊥ at reading
+Longer {A} at reading = Appends cut_at (λ (x : A × ℕ). x.1) NoPart at reading
 
 number : (k at : ℕ) → Longer at (λ bytes. number_at faults.Short k bytes at)
-number k at = number_appends cut_at ⊥ faults.Short (λ p. refl) k at
+number k at = number_appends cut_at NoPart faults.Short (λ p. refl) k at
 
 then : {A B : Type 0} (at : ℕ) (f : List ℕ → Result (A × ℕ) PoolFault) (g : A × ℕ → List ℕ → Result (B × ℕ) PoolFault) → Longer at f → ((x : A × ℕ) → Longer x.1 (g x)) → Longer at (λ bytes. f bytes >>= λ x. g x bytes)
-then {A} {B} at f g a b = bind_appends cut_at ⊥ (λ (x : A × ℕ). x.1) (λ (x : B × ℕ). x.1) at f g a b
+then {A} {B} at f g a b = bind_appends cut_at NoPart (λ (x : A × ℕ). x.1) (λ (x : B × ℕ). x.1) at f g a b
 
 value : {A : Type 0} (x : A) (at : ℕ) → Longer at (λ (bytes : List ℕ). Ok (x, at))
-value {A} x at = given_appends cut_at ⊥ (λ (y : A × ℕ). y.1) at (x, at) refl
+value {A} x at = given_appends cut_at NoPart (λ (y : A × ℕ). y.1) at (x, at) refl
 
 bits : (made : ℕ → Entry) (k at : ℕ) → Longer at (λ bytes. bits_at made k bytes at)
 unfolding bits_at
@@ -55,8 +55,8 @@ handle at =
 eight : (count index at : ℕ) → Longer at (λ bytes. eight_at count index bytes at)
 unfolding eight_at
 eight count index at =
-    cond_appends cut_at ⊥ (λ (x : ℕ × ℕ). x.1) at (eqb (index + 1) count) (λ bytes. failed (faults.Entry index)) (λ bytes. number_at faults.Short 8 bytes at)
-    (fault_appends cut_at ⊥ (λ (x : ℕ × ℕ). x.1) at (faults.Entry index) refl) (number 8 at)
+    cond_appends cut_at NoPart (λ (x : ℕ × ℕ). x.1) at (eqb (index + 1) count) (λ bytes. failed (faults.Entry index)) (λ bytes. number_at faults.Short 8 bytes at)
+    (fault_appends cut_at NoPart (λ (x : ℕ × ℕ). x.1) at (faults.Entry index) refl) (number 8 at)
 
 wide : (made : ℕ → Entry) (count index at : ℕ) → Longer at (λ bytes. wide_at made count index bytes at)
 unfolding wide_at
@@ -82,20 +82,21 @@ text_past : (index next p : ℕ) (units : Result (List ℕ) TextFault) → p < n
 text_past index next p (Ok us) lt = lt
 text_past index next p (Err d) lt = tt
 
-text_part : (index at n : ℕ) → ReadsPart cut_at ⊥ (λ (x : Entry × ℕ). x.1) faults.Short at n 0 (λ window. text_or index (at + n) (units_read (drop at window)))
+text_part : (index at n : ℕ) → ReadsPart cut_at NoPart (λ (x : Entry × ℕ). x.1) faults.Short at n 0 (λ window. text_or index (at + n) (units_read (drop at window)))
 text_part index at n = record {
   read = λ bytes x le e. text_ends index (at + n) (units_read (drop at (take (at + n) bytes))) x e;
   cut = λ bytes f p le e some. text_whole index (at + n) (units_read (drop at (take (at + n) bytes))) f p e some;
+  few = λ bytes le few. absurd (omega (arith, few));
   less = λ bytes le few. absurd (omega (arith, few));
   enough = λ bytes le pos few. text_past index (at + n) at (units_read (drop at (take (at + n) bytes))) (omega (arith, pos));
 }
 
 text_of : (index at n : ℕ) → Longer at (λ bytes. cond (ltb (length bytes) (at + n)) (Err (faults.Short at)) (text_or index (at + n) (units_read (take n (drop at bytes)))))
 text_of index at n =
-    appends_as cut_at ⊥ (λ (x : Entry × ℕ). x.1) at (λ bytes. cond (ltb (length bytes) (at + n)) (Err (faults.Short at)) (text_or index (at + n) (units_read (drop at (take (at + n) bytes)))))
+    appends_as cut_at NoPart (λ (x : Entry × ℕ). x.1) at (λ bytes. cond (ltb (length bytes) (at + n)) (Err (faults.Short at)) (text_or index (at + n) (units_read (drop at (take (at + n) bytes)))))
     (λ bytes. cond (ltb (length bytes) (at + n)) (Err (faults.Short at)) (text_or index (at + n) (units_read (take n (drop at bytes)))))
     (λ bytes. ap (λ (window : List ℕ). cond (ltb (length bytes) (at + n)) (Err (faults.Short at)) (text_or index (at + n) (units_read window))) (drop-take at n bytes))
-    (part_appends cut_at ⊥ (λ (x : Entry × ℕ). x.1) faults.Short (λ p. refl) at n 0 (λ window. text_or index (at + n) (units_read (drop at window))) (text_part index at n))
+    (part_appends cut_at NoPart (λ (x : Entry × ℕ). x.1) faults.Short (λ p. refl) at n 0 (λ window. text_or index (at + n) (units_read (drop at window))) (text_part index at n))
 
 text : (index at : ℕ) → Longer at (λ bytes. text_at bytes index at)
 unfolding text_at
@@ -106,10 +107,10 @@ text index at =
 -- ---- entries
 
 either : {A : Type 0} (at : ℕ) (b : Bool) (f g : List ℕ → Result (A × ℕ) PoolFault) → Longer at f → Longer at g → Longer at (λ bytes. cond b (f bytes) (g bytes))
-either {A} at b f g a c = cond_appends cut_at ⊥ (λ (x : A × ℕ). x.1) at b f g a c
+either {A} at b f g a c = cond_appends cut_at NoPart (λ (x : A × ℕ). x.1) at b f g a c
 
 wrong : {A : Type 0} (index at : ℕ) → Longer {A = A} at (λ bytes. failed (faults.Entry index))
-wrong {A} index at = fault_appends cut_at ⊥ (λ (x : A × ℕ). x.1) at (faults.Entry index) refl
+wrong {A} index at = fault_appends cut_at NoPart (λ (x : A × ℕ). x.1) at (faults.Entry index) refl
 
 content : (tag count index at : ℕ) → Longer at (λ bytes. content_at tag count index bytes at)
 unfolding content_at
@@ -151,5 +152,5 @@ pool_longer at =
     (number 2 at)
     (λ count.
     then count.1 (λ bytes. each_at (entry_at count.0 bytes) (entries.Unused ∷ []) (count.0 - 1) count.1) (λ read bytes. refers_or (position (λ e. not (refers_rightly read.0 e)) read.0) read)
-    (each_appends cut_at ⊥ (λ bytes. entry_at count.0 bytes) (λ done p. entry count.0 done p) (count.0 - 1) (entries.Unused ∷ []) count.1)
+    (each_appends cut_at NoPart (λ bytes. entry_at count.0 bytes) (λ done p. entry count.0 done p) (count.0 - 1) (entries.Unused ∷ []) count.1)
     (λ read. refers (position (λ e. not (refers_rightly read.0 e)) read.0) read))

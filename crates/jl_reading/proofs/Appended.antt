@@ -6,7 +6,7 @@ use Rattle.std.proofs.lemmas.List.{length-append, length-replicate, take-append-
 use Rattle.byteorder.specs.Endian.{big_number}
 use Rattle.byteorder.specs.Numbers.{big_from-take}
 use Rattle.jl_reading.specs.Reading.{◌>>=◌, number_at, each_at, steps_at, IsBytes}
-use Rattle.jl_reading.specs.Appended.{IsPast, GoesPast, Stays, Appends}
+use Rattle.jl_reading.specs.Appended.{IsPast, GoesPast, Stays, NoPart, Appends}
 use Rattle.jl_reading.proofs.Steps.{bind_ok, ok_is}
 
 -- zeros that may follow
@@ -38,7 +38,7 @@ bind_as f e g = rw e g
 pub bind_fails : {A B F : Type 0} {r : Result A F} {d : F} (f : A → Result B F) → r ≡ Err d → (r >>= f) ≡ Err d
 bind_fails f e = rw e refl
 
-module _ {F : Type 0} (cut_at : F → Option ℕ) (Windows : Type 0) where
+module _ {F : Type 0} (cut_at : F → Option ℕ) (Windows : List ℕ → ℕ → Type 0) where
   -- a reading that is the same on all bytes
   pub appends_as : {X : Type 0} (next : X → ℕ) (start : ℕ) (f g : List ℕ → Result X F) → ((bytes : List ℕ) → f bytes ≡ g bytes) → Appends cut_at next Windows start f → Appends cut_at next Windows start g
   appends_as next start f g same a = subst (λ (h : List ℕ → Result _ F). Appends cut_at next Windows start h) (λ i bytes. same bytes i) a
@@ -73,22 +73,24 @@ module _ {F : Type 0} (cut_at : F → Option ℕ) (Windows : Type 0) where
   past_fault {p} f None e h = subst (λ (o : Option ℕ). MatchOption o ⊤ (λ q. p < q)) (sym e) tt
   past_fault {p} f (Some q) e h = subst (λ (o : Option ℕ). MatchOption o ⊤ (λ q. p < q)) (sym e) (h q e)
 
-  pub starts_past : {X : Type 0} (next : X → ℕ) (start p : ℕ) (f : List ℕ → Result X F) → Appends cut_at next Windows start f → p < start
+  pub starts_past : {X : Type 0} (In : List ℕ → ℕ → Type 0) (next : X → ℕ) (start p : ℕ) (f : List ℕ → Result X F) → Appends cut_at next In start f → p < start
       → (bytes : List ℕ) (r : Result X F) → start ≤ length bytes → f bytes ≡ r → IsPast cut_at next p r
-  starts_past next start p f a lt bytes (Ok x) le e = let w = (a.read bytes x le e).0 in omega (arith, w, lt)
-  starts_past next start p f a lt bytes (Err d) le e = past_fault {p = p} d (cut_at d) refl (λ q some. let w = (a.cut bytes d q le e some).0 in omega (arith, w, lt))
+  starts_past In next start p f a lt bytes (Ok x) le e = let w = (a.read bytes x le e).0 in omega (arith, w, lt)
+  starts_past In next start p f a lt bytes (Err d) le e = past_fault {p = p} d (cut_at d) refl (λ q some. let w = (a.cut bytes d q le e some).0 in omega (arith, w, lt))
 
   -- a reading, and another from its end on
-  past_bind : {X Y : Type 0} (next : X → ℕ) (then : Y → ℕ) (start p : ℕ) (f : List ℕ → Result X F) (g : X → List ℕ → Result Y F)
-      → Appends cut_at next Windows start f → ((x : X) → Appends cut_at then Windows (next x) (g x))
+  past_bind : {X Y : Type 0} (In : X → List ℕ → ℕ → Type 0) (next : X → ℕ) (then : Y → ℕ) (start p : ℕ) (f : List ℕ → Result X F) (g : X → List ℕ → Result Y F)
+      → Appends cut_at next Windows start f → ((x : X) → Appends cut_at then (In x) (next x) (g x))
       → (bytes : List ℕ) (r : Result X F) → start ≤ length bytes → f bytes ≡ r → IsPast cut_at next p r → IsPast cut_at then p (r >>= λ x. g x bytes)
-  past_bind next then start p f g a b bytes (Ok x) le e past = starts_past then (next x) p (g x) (b x) past bytes (g x bytes) (a.read bytes x le e).1 refl
-  past_bind next then start p f g a b bytes (Err d) le e past = past
+  past_bind In next then start p f g a b bytes (Ok x) le e past = starts_past (In x) then (next x) p (g x) (b x) past bytes (g x bytes) (a.read bytes x le e).1 refl
+  past_bind In next then start p f g a b bytes (Err d) le e past = past
 
-  pub bind_appends : {X Y : Type 0} (next : X → ℕ) (then : Y → ℕ) (start : ℕ) (f : List ℕ → Result X F) (g : X → List ℕ → Result Y F)
-      → Appends cut_at next Windows start f → ((x : X) → Appends cut_at then Windows (next x) (g x))
+  -- likewise, where the parts of the second are known by what the first read
+  pub bind_within : {X Y : Type 0} (In : X → List ℕ → ℕ → Type 0) (next : X → ℕ) (then : Y → ℕ) (start : ℕ) (f : List ℕ → Result X F) (g : X → List ℕ → Result Y F)
+      → ((bytes : List ℕ) (x : X) (p : ℕ) → f bytes ≡ Ok x → In x bytes p → Windows bytes p)
+      → Appends cut_at next Windows start f → ((x : X) → Appends cut_at then (In x) (next x) (g x))
       → Appends cut_at then Windows start (λ bytes. f bytes >>= λ x. g x bytes)
-  bind_appends next then start f g a b = record {
+  bind_within In next then start f g inside a b = record {
     read = λ bytes y le e.
         let o = bind_ok (f bytes) (λ x. g x bytes) y e in
         let first = a.read bytes o.0 le o.1 in
@@ -114,7 +116,7 @@ module _ {F : Type 0} (cut_at : F → Option ℕ) (Windows : Type 0) where
                   | inl goes ↦ inl (
                     goes.0,
                     goes.1,
-                    past_bind next then start p f g a b (bytes ++ goes.0) (f (bytes ++ goes.0)) (omega (arith, le, length-append bytes goes.0)) refl goes.2,
+                    past_bind In next then start p f g a b (bytes ++ goes.0) (f (bytes ++ goes.0)) (omega (arith, le, length-append bytes goes.0)) refl goes.2,
                   )
                   | inr w ↦ inr (w.0, λ more. bind_fails (λ x. g x (bytes ++ more)) (w.1 more ∙ h) ∙ sym e)
                 ],
@@ -130,11 +132,16 @@ module _ {F : Type 0} (cut_at : F → Option ℕ) (Windows : Type 0) where
                     goes.1,
                     subst (λ (r : Result _ F). IsPast cut_at then p (r >>= λ x. g x (bytes ++ goes.0))) (sym (first.2 goes.0 ∙ o.1)) goes.2,
                   )
-                  | inr w ↦ inr (w.0, λ more. bind_as (λ x. g x (bytes ++ more)) (first.2 more ∙ o.1) (w.1 more ∙ o.2) ∙ sym e)
+                  | inr w ↦ inr (inside bytes o.0 p o.1 w.0, λ more. bind_as (λ x. g x (bytes ++ more)) (first.2 more ∙ o.1) (w.1 more ∙ o.2) ∙ sym e)
                 ],
               )
         ];
   }
+
+  pub bind_appends : {X Y : Type 0} (next : X → ℕ) (then : Y → ℕ) (start : ℕ) (f : List ℕ → Result X F) (g : X → List ℕ → Result Y F)
+      → Appends cut_at next Windows start f → ((x : X) → Appends cut_at then Windows (next x) (g x))
+      → Appends cut_at then Windows start (λ bytes. f bytes >>= λ x. g x bytes)
+  bind_appends next then start f g a b = bind_within (λ x. Windows) next then start f g (λ bytes x p e w. w) a b
 
   -- so many units, one after the other
   pub each_appends : {X : Type 0} (one : List ℕ → List X → ℕ → Result (X × ℕ) F) → ((done : List X) (at : ℕ) → Appends cut_at (λ (x : X × ℕ). x.1) Windows at (λ bytes. one bytes done at))
@@ -166,8 +173,9 @@ module _ {F : Type 0} (cut_at : F → Option ℕ) (Windows : Type 0) where
   -- A part of n bytes from a place on, of which a reader answers that sees the bytes up to its end alone. Of fewer than k bytes it cannot read the first number.
   pub record ReadsPart {X : Type 0} (next : X → ℕ) (short : ℕ → F) (start n k : ℕ) (part : List ℕ → Result X F) : Type 0 where
     pub read : (bytes : List ℕ) (x : X) → start + n ≤ length bytes → part (take (start + n) bytes) ≡ Ok x → next x ≡ start + n
-    pub cut : (bytes : List ℕ) (f : F) (p : ℕ) → start + n ≤ length bytes → part (take (start + n) bytes) ≡ Err f → cut_at f ≡ Some p → Windows × (start ≤ p) × (p ≤ start + n)
-    pub less : (bytes : List ℕ) → start + n ≤ length bytes → n < k → Windows × (part (take (start + n) bytes) ≡ Err (short start))
+    pub cut : (bytes : List ℕ) (f : F) (p : ℕ) → start + n ≤ length bytes → part (take (start + n) bytes) ≡ Err f → cut_at f ≡ Some p → Windows bytes p × (start ≤ p) × (p ≤ start + n)
+    pub few : (bytes : List ℕ) → start ≤ length bytes → n < k → Windows bytes start
+    pub less : (bytes : List ℕ) → start + n ≤ length bytes → n < k → part (take (start + n) bytes) ≡ Err (short start)
     pub enough : (bytes : List ℕ) → start + n ≤ length bytes → 0 < n → k ≤ n → IsPast cut_at next start (part (take (start + n) bytes))
 
   module _ {X : Type 0} (next : X → ℕ) (short : ℕ → F) (places : (p : ℕ) → cut_at (short p) ≡ Some p) (start n k : ℕ) (part : List ℕ → Result X F) (law : ReadsPart next short start n k part) where
@@ -189,15 +197,15 @@ module _ {F : Type 0} (cut_at : F → Option ℕ) (Windows : Type 0) where
     all_short : (bytes : List ℕ) → length bytes < start + n → n < k → (more : List ℕ) → reading (bytes ++ more) ≡ Err (short start)
     all_short bytes lt few more = elim (cases_lt (length (bytes ++ more)) (start + n)) [
       | inl l ↦ gone (bytes ++ more) l
-      | inr l ↦ there (bytes ++ more) l ∙ (law.less (bytes ++ more) l few).1
+      | inr l ↦ there (bytes ++ more) l ∙ law.less (bytes ++ more) l few
     ]
 
     filled : (bytes : List ℕ) → start ≤ length bytes → start + n ≤ length (bytes ++ replicate n 0)
     filled bytes le = omega (arith, le, length-append bytes (replicate n 0), length-replicate {A = ℕ} n 0)
 
-    cut_here : (bytes : List ℕ) → start ≤ length bytes → length bytes < start + n → GoesPast cut_at next reading bytes start ⊎ (Windows × Stays reading bytes)
+    cut_here : (bytes : List ℕ) → start ≤ length bytes → length bytes < start + n → GoesPast cut_at next reading bytes start ⊎ (Windows bytes start × Stays reading bytes)
     cut_here bytes le lt = elim (cases_lt n k) [
-      | inl few ↦ inr ((law.less (bytes ++ replicate n 0) (filled bytes le) few).0, λ more. all_short bytes lt few more ∙ sym (gone bytes lt))
+      | inl few ↦ inr (law.few bytes le few, λ more. all_short bytes lt few more ∙ sym (gone bytes lt))
       | inr fits ↦ inl (
         replicate n 0,
         zeros_are_bytes n,
@@ -221,7 +229,7 @@ module _ {F : Type 0} (cut_at : F → Option ℕ) (Windows : Type 0) where
           elim (cases_lt (length bytes) (start + n)) [
             | inl lt ↦
                 let same = place_is (short start) start p (places start) (ap cut_at (err_is (short start) f (sym (gone bytes lt) ∙ e)) ∙ some) in
-                (omega (arith, same), omega (arith, same, le), subst (λ (q : ℕ). GoesPast cut_at next reading bytes q ⊎ (Windows × Stays reading bytes)) same (cut_here bytes le lt))
+                (omega (arith, same), omega (arith, same, le), subst (λ (q : ℕ). GoesPast cut_at next reading bytes q ⊎ (Windows bytes q × Stays reading bytes)) same (cut_here bytes le lt))
             | inr w ↦ let c = law.cut bytes f p w (sym (there bytes w) ∙ e) some in (c.1, omega (arith, c.2, w), inr (c.0, stays bytes w))
           ];
     }
@@ -233,6 +241,7 @@ module _ {F : Type 0} (cut_at : F → Option ℕ) (Windows : Type 0) where
       let law : ReadsPart (λ (x : ℕ × ℕ). x.1) short start k 0 part = record {
         read = λ bytes x le e. sym (ap (λ (x : ℕ × ℕ). x.1) (ok_is (big_number k (drop start (take (start + k) bytes)), start + k) x e));
         cut = λ bytes f p le e some. not_both (big_number k (drop start (take (start + k) bytes)), start + k) f e;
+        few = λ bytes le few. absurd (omega (arith, few));
         less = λ bytes le few. absurd (omega (arith, few));
         enough = λ bytes le pos few. omega (arith, pos);
       } in
@@ -241,7 +250,7 @@ module _ {F : Type 0} (cut_at : F → Option ℕ) (Windows : Type 0) where
       (part_appends (λ (x : ℕ × ℕ). x.1) short places start k 0 part law)
 
 -- the same reading, where faults are those of another type
-pub mapped_appends : {X F G : Type 0} (cut_at : F → Option ℕ) (cut_in : G → Option ℕ) (Windows : Type 0) (next : X → ℕ) (start : ℕ) (f : List ℕ → Result X F) (m : Result X F → Result X G) (h : F → G)
+pub mapped_appends : {X F G : Type 0} (cut_at : F → Option ℕ) (cut_in : G → Option ℕ) (Windows : List ℕ → ℕ → Type 0) (next : X → ℕ) (start : ℕ) (f : List ℕ → Result X F) (m : Result X F → Result X G) (h : F → G)
     → ((x : X) → m (Ok x) ≡ Ok x) → ((d : F) → m (Err d) ≡ Err (h d)) → ((d : F) → cut_in (h d) ≡ cut_at d)
     → Appends cut_at next Windows start f → Appends cut_in next Windows start (λ bytes. m (f bytes))
 mapped_appends {X} {F} {G} cut_at cut_in Windows next start f m h good bad same a = record {
@@ -272,7 +281,7 @@ mapped_appends {X} {F} {G} cut_at cut_in Windows next start f m h good bad same 
     past p (Err d) i = subst (λ (r : Result X G). IsPast cut_in next p r) (sym (bad d)) (subst (λ (o : Option ℕ). MatchOption o ⊤ (λ q. p < q)) (sym (same d)) i)
 
 -- a reading without parts of a length, among readings with them
-pub widened_appends : {X F : Type 0} (cut_at : F → Option ℕ) (Windows : Type 0) (next : X → ℕ) (start : ℕ) (f : List ℕ → Result X F) → Appends cut_at next ⊥ start f → Appends cut_at next Windows start f
+pub widened_appends : {X F : Type 0} (cut_at : F → Option ℕ) (Windows : List ℕ → ℕ → Type 0) (next : X → ℕ) (start : ℕ) (f : List ℕ → Result X F) → Appends cut_at next NoPart start f → Appends cut_at next Windows start f
 widened_appends cut_at Windows next start f a = record {
   read = a.read;
   fault = a.fault;

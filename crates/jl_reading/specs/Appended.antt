@@ -15,12 +15,16 @@ GoesPast cut_at next reading bytes p = (more : List ℕ) × IsBytes more × IsPa
 abbrev pub Stays : {X F : Type 0} → (List ℕ → Result X F) → List ℕ → Type 0
 Stays reading bytes = (more : List ℕ) → reading (bytes ++ more) ≡ reading bytes
 
--- A reading from a place on, under bytes that follow. Windows says whether it reads in parts whose lengths it has read: a number that such a part cuts is cut whatever follows.
-pub record Appends {X F : Type 0} (cut_at : F → Option ℕ) (next : X → ℕ) (Windows : Type 0) (start : ℕ) (reading : List ℕ → Result X F) : Type 0 where
+-- The words for a reading that reads in no part of a length.
+abbrev pub NoPart : List ℕ → ℕ → Type 0
+NoPart bytes p = ⊥
+
+-- A reading from a place on, under bytes that follow. Windows says of the bytes at which places it reads in parts whose lengths it has read: a number that such a part cuts is cut whatever follows.
+pub record Appends {X F : Type 0} (cut_at : F → Option ℕ) (next : X → ℕ) (Windows : List ℕ → ℕ → Type 0) (start : ℕ) (reading : List ℕ → Result X F) : Type 0 where
   -- what is read is read also where more follows
   pub read : (bytes : List ℕ) (x : X) → start ≤ length bytes → reading bytes ≡ Ok x → (start ≤ next x) × (next x ≤ length bytes) × Stays reading bytes
   -- a fault of no cut number stays
   pub fault : (bytes : List ℕ) (f : F) → start ≤ length bytes → reading bytes ≡ Err f → cut_at f ≡ None → Stays reading bytes
   -- a number is cut at a place within the bytes, and some longer input is read past it
   pub cut : (bytes : List ℕ) (f : F) (p : ℕ) → start ≤ length bytes → reading bytes ≡ Err f → cut_at f ≡ Some p
-      → (start ≤ p) × (p ≤ length bytes) × (GoesPast cut_at next reading bytes p ⊎ (Windows × Stays reading bytes))
+      → (start ≤ p) × (p ≤ length bytes) × (GoesPast cut_at next reading bytes p ⊎ (Windows bytes p × Stays reading bytes))
