@@ -12,7 +12,8 @@ use Rattle.jl_config.specs.Laws.{ResolvesAlways, RefusesWhereOneHolds}
 use Rattle.jl_config.specs.Located.{Asked, Scene, scene_of, id_of, name_of, site_name}
 use Rattle.jl_config.specs.Members.{IsMember, Reads}
 use Rattle.jl_config.specs.Orders.{module_cmp, read_cmp}
-use Rattle.jl_config.specs.Refusals.{IsMissing, IsLarge, most, IsOnCycle, IsSameName, IsSamePackage, IsOwnPackage, IsServicePackage, Applies, fault_cmp}
+use Rattle.jl_prim.specs.Limits.{most_modules}
+use Rattle.jl_config.specs.Refusals.{IsMissing, IsLarge, IsOnCycle, IsSameName, IsSamePackage, IsOwnPackage, IsServicePackage, Applies, fault_cmp}
 use Rattle.jl_config.specs.Resolves.{Resolves, AreModules, AreReads, IsConfigurationOf, read_of, new_site}
 use Rattle.jl_config.proofs.FaultOrder.{fault_total, modules_total, reads_total, reads_exact}
 use Rattle.jl_config.proofs.Names.{names_exact}
@@ -31,7 +32,7 @@ abbrev Made : {X : Type 0} → (X → Type 0) → (X → ResolveFault) → Resol
 Made {X} P make f = (x : X) × P x × (make x ≡ f)
 
 abbrev pub IsTooMany : Asked → Type 0
-IsTooMany q = IsLarge (scene_of q) ⊎ (most ≤ length q.known)
+IsTooMany q = IsLarge (scene_of q) ⊎ (most_modules ≤ length q.known)
 
 abbrev not_found : List ℕ × Option (List ℕ) → ResolveFault
 not_found m = NotFound m.0 m.1
@@ -101,9 +102,9 @@ later_listed q lists =
     (listing_map (IsServicePackage (scene_of q)) service_package (service_listed (scene_of q) lists))))
 
 decided_too_many : (q : Asked) → Lists (scene_of q) → Decided (IsTooMany q)
-decided_too_many q lists = decided_either (IsLarge (scene_of q)) (most ≤ length q.known) (decided_large (scene_of q) lists) (decided_most (length q.known))
+decided_too_many q lists = decided_either (IsLarge (scene_of q)) (most_modules ≤ length q.known) (decided_large (scene_of q) lists) (decided_most (length q.known))
   where
-    decided_most : (n : ℕ) → Decided (most ≤ n)
+    decided_most : (n : ℕ) → Decided (most_modules ≤ n)
     decided_most n = decided_less 4095 n
 
 faults_listed : (q : Asked) → Lists (scene_of q) → Listing (Applies q)

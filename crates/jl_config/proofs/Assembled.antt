@@ -15,7 +15,8 @@ use Rattle.jl_config.specs.Located.{Asked, Scene, scene_of}
 use Rattle.jl_config.specs.Members.{Enumerated, IsBound, IsMemberBy, IsMember}
 use Rattle.jl_config.specs.Orders.{module_cmp, site_cmp}
 use Rattle.jl_config.specs.Places.{AreMembers, sites_at, MissingFault, CycleFault, SameNameFault, SamePackageFault, OwnPackageFault, ServiceFault}
-use Rattle.jl_config.specs.Refusals.{IsLarge, most, Applies, rank, fields, fields_cmp, fault_cmp}
+use Rattle.jl_prim.specs.Limits.{most_modules}
+use Rattle.jl_config.specs.Refusals.{IsLarge, Applies, rank, fields, fields_cmp, fault_cmp}
 use Rattle.jl_config.specs.Resolves.{Resolves, AreModules, AreJustified, new_site}
 use Rattle.jl_config.proofs.FaultOrder.{fault_total, sites_total}
 use Rattle.jl_config.proofs.Always.{IsTooMany, module_here}
@@ -183,21 +184,21 @@ at_members : (w : Scene) (ps : List ℕ) → AreMembers w ps → (s : Site) → 
 at_members w ps m s k = let r = m.all s k in into_filter_map (slice_get w.sites) ps r.0 s r.1 r.2
 
 -- the set is too large exactly where there are more places than that
-pub large_by_places : (w : Scene) (ps : List ℕ) → AreMembers w ps → most < length ps → IsLarge w
+pub large_by_places : (w : Scene) (ps : List ℕ) → AreMembers w ps → most_modules < length ps → IsLarge w
 large_by_places w ps m h =
     let long : length (sites_at w ps) ≡ length ps = sites_long w ps m.within in
     (sites_at w ps, m.rise, All-from_recursion (IsMember w) (sites_at w ps) (each_from_members (IsMember w) (sites_at w ps) (members_at w ps m)), more (length (sites_at w ps)) (length ps) long h)
   where
-    more : (a b : ℕ) → a ≡ b → most < b → most < a
+    more : (a b : ℕ) → a ≡ b → most_modules < b → most_modules < a
     more a b e l = omega arith
 
-pub not_large_by_places : (w : Scene) (ps : List ℕ) → AreMembers w ps → length ps ≤ most → IsLarge w → ⊥
+pub not_large_by_places : (w : Scene) (ps : List ℕ) → AreMembers w ps → length ps ≤ most_modules → IsLarge w → ⊥
 not_large_by_places w ps m h large =
     let long : length (sites_at w ps) ≡ length ps = sites_long w ps m.within in
     let shorter : length large.0 ≤ length (sites_at w ps) = no_longer site_cmp sites_total large.0 (sites_at w ps) large.1 m.rise (λ s c. at_members w ps m s (All-contains (IsMember w) large.0 s large.2 c)) in
     few (length large.0) (length (sites_at w ps)) (length ps) shorter long h large.3
   where
-    few : (a b c : ℕ) → a ≤ b → b ≡ c → c ≤ most → most < a → ⊥
+    few : (a b c : ℕ) → a ≤ b → b ≡ c → c ≤ most_modules → most_modules < a → ⊥
     few a b c h e k l = omega arith
 
 -- ---- the modules, copied in the order of the places

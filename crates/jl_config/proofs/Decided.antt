@@ -9,7 +9,8 @@ use Rattle.jl_config.specs.Configurations.{Configuration}
 use Rattle.jl_config.specs.Located.{Asked, Scene, scene_of, id_of}
 use Rattle.jl_config.specs.MemberRows.{modules_at}
 use Rattle.jl_config.specs.Places.{AreMembers, IsLeastSome, sites_at}
-use Rattle.jl_config.specs.Refusals.{most, fault_cmp}
+use Rattle.jl_prim.specs.Limits.{most_modules}
+use Rattle.jl_config.specs.Refusals.{fault_cmp}
 use Rattle.jl_config.specs.Resolves.{Resolves, AreReads, AreJustified, IsConfigurationOf}
 use Rattle.jl_config.specs.Settled.{StartsAt, Settles}
 use Rattle.jl_config.proofs.Always.{IsTooMany}
@@ -42,33 +43,24 @@ pub after_parents : (q : Asked) → (q.parents ≡ [] → ⊥) → StartsAt q 1
 after_parents q some NoParents a = absurd (some a)
 after_parents q some f a = omega arith
 
-pub few : (q : Asked) (w : Scene) (ps : List ℕ) → w ≡ scene_of q → AreMembers w ps → length ps ≤ 4096 → length q.known < 4096 → IsTooMany q → ⊥
+pub few : (q : Asked) (w : Scene) (ps : List ℕ) → w ≡ scene_of q → AreMembers w ps → length ps ≤ most_modules → length q.known < most_modules → IsTooMany q → ⊥
 few q w ps same members a b = λ h.
     ⊎_elim
-    (λ large. not_large_by_places (scene_of q) ps (subst (λ (v : Scene). AreMembers v ps) same members) (fits (length ps) a) large)
+    (λ large. not_large_by_places (scene_of q) ps (subst (λ (v : Scene). AreMembers v ps) same members) a large)
     (λ many. too_many (length q.known) b many)
     h
   where
-    fits : (n : ℕ) → n ≤ 4096 → n ≤ most
-    fits n h = omega arith
-
-    too_many : (n : ℕ) → n < 4096 → most ≤ n → ⊥
+    too_many : (n : ℕ) → n < most_modules → most_modules ≤ n → ⊥
     too_many n h k = omega arith
 
-pub after_many : (q : Asked) (w : Scene) (ps : List ℕ) → w ≡ scene_of q → AreMembers w ps → length ps ≤ 4096 → length q.known < 4096 → StartsAt q 2 → StartsAt q 3
+pub after_many : (q : Asked) (w : Scene) (ps : List ℕ) → w ≡ scene_of q → AreMembers w ps → length ps ≤ most_modules → length q.known < most_modules → StartsAt q 2 → StartsAt q 3
 after_many q w ps same members a b before = none_further q 2 (TooManyFault q) (too_many_kind q) before (λ f h. few q w ps same members a b h.0)
 
-pub many_members : (q : Asked) (w : Scene) (ps : List ℕ) → w ≡ scene_of q → AreMembers w ps → 4096 < length ps → IsTooMany q
-many_members q w ps same members h = inl (large_by_places (scene_of q) ps (subst (λ (v : Scene). AreMembers v ps) same members) (past (length ps) h))
-  where
-    past : (n : ℕ) → 4096 < n → most < n
-    past n h = omega arith
+pub many_members : (q : Asked) (w : Scene) (ps : List ℕ) → w ≡ scene_of q → AreMembers w ps → most_modules < length ps → IsTooMany q
+many_members q w ps same members h = inl (large_by_places (scene_of q) ps (subst (λ (v : Scene). AreMembers v ps) same members) h)
 
-pub many_known : (q : Asked) → 4096 ≤ length q.known → IsTooMany q
-many_known q h = inr (past (length q.known) h)
-  where
-    past : (n : ℕ) → 4096 ≤ n → most ≤ n
-    past n h = omega arith
+pub many_known : (q : Asked) → most_modules ≤ length q.known → IsTooMany q
+many_known q h = inr h
 
 -- the graph that was made is the answer
 module _ (q : Asked) (w : Scene) (same : w ≡ scene_of q) (ps : List ℕ) (members : AreMembers w ps) (g : Configuration) (number : g.id ≡ id_of q) (given : g.parents ≡ q.parents) (modules : g.modules ≡ modules_at w ps) (reads : AreReads w g.reads) where
@@ -98,12 +90,12 @@ module _ (K : Scene → ResolveFault → Type 0) (k : ℕ) (kind : (q : Asked) �
       by None e = goes_on e q same before
       by (Some f) e = settled f e q same before
 
-pub too_many_settled : (w : Scene) (ps : List ℕ) (known : ℕ) → AreMembers w ps → (4096 < length ps) ⊎ (4096 ≤ known) → (q : Asked) → w ≡ scene_of q → length q.known ≡ known → StartsAt q 2 → Resolves q (Err TooMany)
+pub too_many_settled : (w : Scene) (ps : List ℕ) (known : ℕ) → AreMembers w ps → (most_modules < length ps) ⊎ (most_modules ≤ known) → (q : Asked) → w ≡ scene_of q → length q.known ≡ known → StartsAt q 2 → Resolves q (Err TooMany)
 too_many_settled w ps known members h q same long before =
-    too_many_first q before (⊎_elim (λ m. many_members q w ps same members m) (λ k. many_known q (subst (λ (n : ℕ). 4096 ≤ n) (sym long) k)) h)
+    too_many_first q before (⊎_elim (λ m. many_members q w ps same members m) (λ k. many_known q (subst (λ (n : ℕ). most_modules ≤ n) (sym long) k)) h)
 
-pub few_go_on : (w : Scene) (ps : List ℕ) (known : ℕ) → AreMembers w ps → length ps ≤ 4096 → known < 4096 → (q : Asked) → w ≡ scene_of q → length q.known ≡ known → StartsAt q 2 → StartsAt q 3
-few_go_on w ps known members a b q same long before = (after_many q w ps same members a (subst (λ (n : ℕ). n < 4096) (sym long) b) before)
+pub few_go_on : (w : Scene) (ps : List ℕ) (known : ℕ) → AreMembers w ps → length ps ≤ most_modules → known < most_modules → (q : Asked) → w ≡ scene_of q → length q.known ≡ known → StartsAt q 2 → StartsAt q 3
+few_go_on w ps known members a b q same long before = (after_many q w ps same members a (subst (λ (n : ℕ). n < most_modules) (sym long) b) before)
 
 -- a search that found nothing
 pub none_of : (K : Scene → ResolveFault → Type 0) (w : Scene) (found : Option ResolveFault) → IsLeastSome fault_cmp (K w) found → found ≡ None → (f : ResolveFault) → K w f → ⊥

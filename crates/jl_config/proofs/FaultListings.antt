@@ -7,7 +7,8 @@ use Rattle.jl_config.specs.declared.site.Site.{Site}
 use Rattle.jl_config.specs.Located.{Scene, site_name, located}
 use Rattle.jl_config.specs.Members.{Needs, Uses, IsProvidedBy, IsMember, Reads}
 use Rattle.jl_config.specs.Orders.{site_cmp}
-use Rattle.jl_config.specs.Refusals.{IsMissing, IsLarge, most, IsSameName, Exports, Gets, Holds, IsSamePackage, IsOwnPackage, Sees, IsServicePackage}
+use Rattle.jl_prim.specs.Limits.{most_modules}
+use Rattle.jl_config.specs.Refusals.{IsMissing, IsLarge, IsSameName, Exports, Gets, Holds, IsSamePackage, IsOwnPackage, Sees, IsServicePackage}
 use Rattle.jl_config.proofs.DeclaredLists.{decided_in, needed, exported, services, decided_config}
 use Rattle.jl_config.proofs.FaultOrder.{sites_total}
 use Rattle.jl_config.proofs.Names.{names_exact}
@@ -53,17 +54,17 @@ missing_listed w lists =
 
 -- ---- too much
 
-large_by : (w : Scene) (ss : Rising site_cmp sites_total (IsMember w)) → Decided (most < length ss.items) → Decided (IsLarge w)
+large_by : (w : Scene) (ss : Rising site_cmp sites_total (IsMember w)) → Decided (most_modules < length ss.items) → Decided (IsLarge w)
 large_by w ss (inl h) = inl (ss.items, ss.rise, All-from_recursion (IsMember w) ss.items (each_from_members (IsMember w) ss.items ss.only), h)
 large_by w ss (inr n) = inr (λ k. n (longer (length k.0) (length ss.items) k.3 (no_longer site_cmp sites_total k.0 ss.items k.1 ss.rise (λ s c. ss.all s (All-contains (IsMember w) k.0 s k.2 c)))))
   where
-    longer : (a b : ℕ) → most < a → a ≤ b → most < b
+    longer : (a b : ℕ) → most_modules < a → a ≤ b → most_modules < b
     longer a b h k = omega arith
 
 pub decided_large : (w : Scene) → Lists w → Decided (IsLarge w)
 decided_large w lists =
     let ss : Rising site_cmp sites_total (IsMember w) = sorted site_cmp sites_total (IsMember w) lists.members (λ x y a b e. one_of_name w x y a b (names_exact (site_name x) (site_name y) e)) in
-    large_by w ss (decided_less most (length ss.items))
+    large_by w ss (decided_less most_modules (length ss.items))
 
 -- ---- two of one name
 

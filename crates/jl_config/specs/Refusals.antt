@@ -2,6 +2,7 @@
 use Rattle.std.specs.Prelude.{◌≡◌, ◌≢◌, ℕ, zero, suc, ◌≤◌, ◌<◌, List, [], ◌∷◌, length, Option, None, Some, Contains, All, ◌⊎◌, ⊤}
 use Rattle.jl_prim.specs.declared.declaration.Requires.{Requires}
 use Rattle.jl_prim.specs.declared.declaration.Grant.{Grant}
+use Rattle.jl_prim.specs.Limits.{most_modules}
 use Rattle.jl_logic.specs.Order.{optional_cmp, RisesBy}
 use Rattle.jl_names.specs.Names.{package_of}
 use Rattle.std.specs.Ordering.{ordering_then, nat_cmp}
@@ -21,13 +22,9 @@ abbrev pub IsMissing : Scene → List ℕ × Option (List ℕ) → Type 0
 IsMissing w (name, None) = Contains w.roots name × (located w name ≡ None)
 IsMissing w (name, Some by) = (s : Site) × IsMember w s × (site_name s ≡ by) × Needs s name × (located w name ≡ None)
 
--- the most modules of a configuration, and the most configurations
-abbrev pub most : ℕ
-most = 4096
-
--- more modules than that are in the set
+-- more modules than a configuration may have are in the set
 abbrev pub IsLarge : Scene → Type 0
-IsLarge w = (ss : List Site) × RisesBy site_cmp ss × All (IsMember w) ss × (most < length ss)
+IsLarge w = (ss : List Site) × RisesBy site_cmp ss × All (IsMember w) ss × (most_modules < length ss)
 
 -- ---- cycles
 
@@ -96,7 +93,7 @@ IsServicePackage w (name, service) = (a : Site) × IsMember w a × (site_name a 
 abbrev pub Applies : Asked → ResolveFault → Type 0
 Applies q NoParents = q.parents ≡ []
 Applies q (NotFound name by) = IsMissing (scene_of q) (name, by)
-Applies q TooMany = IsLarge (scene_of q) ⊎ (most ≤ length q.known)
+Applies q TooMany = IsLarge (scene_of q) ⊎ (most_modules ≤ length q.known)
 Applies q (Cycle least) = IsOnCycle (scene_of q) least
 Applies q (SameName reader name) = IsSameName (scene_of q) (reader, name)
 Applies q (SamePackage reader p one other) = IsSamePackage (scene_of q) (reader, p, one, other)

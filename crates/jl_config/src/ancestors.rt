@@ -2,6 +2,7 @@
 
 ghost use Rattle.std.specs.Prelude.{◌≡◌, ◌≤◌, ◌+◌, ◌++◌, length, map, OnOk, MatchOption};
 ghost use Rattle.std.specs.List.{flat_map};
+ghost use Rattle.jl_prim.specs.Limits.{most_modules};
 ghost use Rattle.jl_config.specs.Located.{empty_configuration, configuration_of, lineage, sites_of};
 ghost use Rattle.jl_config.specs.Lineages.{reads_with, all_sites, all_reads};
 
@@ -16,7 +17,7 @@ pub fn push_ancestors(
     known: &[Configuration],
     parents: &[ConfigId],
 ) -> Result<(), CopyEnd>
-    requires { length known.now ≤ 4096 }
+    requires { length known.now ≤ most_modules }
     ensures sites { OnOk result (sites.new.items ≡ sites.old.items ++ all_sites (lineage (length known.now + 1) known.now parents.now)) }
     ensures reads { OnOk result (reads.new.items ≡ reads.old.items ++ all_reads (lineage (length known.now + 1) known.now parents.now)) }
 {

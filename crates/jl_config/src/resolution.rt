@@ -2,6 +2,7 @@
 
 ghost use Rattle.std.specs.Prelude.{◌≡◌, ◌≤◌, ◌<◌, ◌⊎◌, ◌++◌, None, Some, true, false, length, map, slice_get, IfOk, OnOk};
 ghost use Rattle.std.specs.Option.{option_to_list};
+ghost use Rattle.jl_prim.specs.Limits.{most_modules};
 ghost use Rattle.jl_config.specs.Imported.{AreImports};
 ghost use Rattle.jl_config.specs.Located.{Asked, scene_of};
 ghost use Rattle.jl_config.specs.MemberRows.{modules_at};
@@ -24,7 +25,7 @@ use crate::reads::reads_of;
 use crate::same_name::least_same_name;
 use crate::scene::Scene;
 use crate::services::least_service;
-use jl_prim::{ConfigId, Copied, CopyEnd, Found, Items, Name, Observed};
+use jl_prim::{ConfigId, Copied, CopyEnd, Found, Items, MOST_MODULES, Name, Observed};
 use std::alloc::Global;
 
 /// Resolves the roots over the modules that two finders observe and that the parents have, and with `bind`
@@ -40,7 +41,7 @@ pub fn resolve(
     roots: &[Name],
     bind: bool,
 ) -> Result<Configuration, ResolveFault>
-    requires few_known { length known.now ≤ 4096 }
+    requires few_known { length known.now ≤ most_modules }
     requires one_parent { length parents.now ≤ 1 }
     ensures resolves { Resolves (asked known.now before.now.modules parents.now after.now.modules roots.now bind) result }
     // Each module ends a justified list.
@@ -59,7 +60,7 @@ fn resolve_over(
     known: usize,
     parents: &[ConfigId],
 ) -> Result<Configuration, ResolveFault>
-    requires { known ≤ 4096 }
+    requires { known ≤ most_modules }
     ensures resolves { (q : Asked) → scene.now ≡ scene_of q → length q.known ≡ known → q.parents ≡ parents.now → StartsAt q 1 → Resolves q result }
     ensures justified { (q : Asked) → scene.now ≡ scene_of q → IfOk result (λ g. AreJustified q g) }
 {
@@ -97,11 +98,11 @@ fn least_early(
 }
 
 fn are_too_many(places: &[usize], known: usize) -> bool
-    ensures yes { result ≡ true → (4096 < length places.now) ⊎ (4096 ≤ known) }
-    ensures few_places { result ≡ false → length places.now ≤ 4096 }
-    ensures few_known { result ≡ false → known < 4096 }
+    ensures yes { result ≡ true → (most_modules < length places.now) ⊎ (most_modules ≤ known) }
+    ensures few_places { result ≡ false → length places.now ≤ most_modules }
+    ensures few_known { result ≡ false → known < most_modules }
 {
-    places.len() > 4096 || known >= 4096
+    places.len() > MOST_MODULES || known >= MOST_MODULES
 }
 
 // The refusal that is decided by what the members read.

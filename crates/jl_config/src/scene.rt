@@ -4,6 +4,7 @@ ghost use Rattle.std.specs.Prelude.{◌≡◌, ◌≤◌, ℕ, List, length, nat
 ghost use Rattle.std.specs.Option.{option_copied, option_map_or};
 ghost use Rattle.std.specs.Cmp.Lexicographic.{pointwise};
 ghost use Rattle.indexmap.specs.IndexMap.{get};
+ghost use Rattle.jl_prim.specs.Limits.{most_modules};
 ghost use Rattle.jl_config.specs.Lineages.{is_reader, is_read_in, is_named, is_in};
 ghost use Rattle.jl_config.specs.Located.{scene_of, is_here, find_read};
 ghost use Rattle.jl_config.specs.Places.{place_named, place_of_site, own_place};
@@ -39,6 +40,7 @@ impl Model for Scene {
     ghost use Rattle.std.specs.Cmp.Lexicographic.{pointwise};
     ghost use Rattle.indexmap.specs.IndexMap.{get};
     ghost use Rattle.jl_config.specs.Located as seen;
+    ghost use Rattle.jl_prim.specs.Limits.{most_modules};
     ghost use Rattle.jl_config.specs.Lineages.{is_reader, is_named};
     ghost use Rattle.jl_config.specs.Places.{place_named};
     ghost use Rattle.jl_config.specs.Tables.{listed, places_where};
@@ -63,7 +65,7 @@ impl Scene {
         roots: &[Name],
         bind: bool,
     ) -> Result<Scene, CopyEnd>
-        requires few_known { length known.now ≤ 4096 }
+        requires few_known { length known.now ≤ most_modules }
         requires one_parent { length parents.now ≤ 1 }
         ensures { IfOk result (λ w. w ≡ scene_of (asked known.now before.now.modules parents.now after.now.modules roots.now bind)) }
     {

@@ -1,5 +1,6 @@
 use Rattle.std.proofs.Common.{◌≡◌, ◌<◌, ◌⊎◌, ◌≤◌, subst, length, List, ℕ}
 use Rattle.std.proofs.lemmas.Result.{IfOk-weaker}
+use Rattle.jl_prim.specs.Limits.{most_modules}
 use Rattle.jl_config.specs.Located.{Asked, scene_of}
 use Rattle.jl_config.specs.Places.{MissingFault, CycleFault, IsLeastSome}
 use Rattle.jl_config.specs.Refusals.{fault_cmp}
@@ -15,7 +16,7 @@ pub returns-then-are_too_many : goal.returns-then-are_too_many
 returns-then-are_too_many c = λ q same long before.
     let seen = c.as_slice.ensures.value in
     too_many_settled c.args.scene.now c.args.members.now.places.items c.args.known c.requires.places
-    (subst (λ (l : List ℕ). (4096 < length l) ⊎ (4096 ≤ c.args.known)) seen (c.are_too_many.ensures.yes c.if-are_too_many.true)) q same long
+    (subst (λ (l : List ℕ). (most_modules < length l) ⊎ (most_modules ≤ c.args.known)) seen (c.are_too_many.ensures.yes c.if-are_too_many.true)) q same long
     (goes_on MissingFault 1 missing_kind c.args.scene.now _ c.in_ok-fault.ensures c.in_default.is q same before)
 
 pub returns : goal.returns
@@ -26,6 +27,6 @@ returns c =
     IfOk-weaker c.least_cycle.result (λ found. IsLeastSome fault_cmp (CycleFault w) found) (λ found. (q : Asked) → w ≡ scene_of q → length q.known ≡ c.args.known → StartsAt q 1 → Settles q 4 found)
     (λ found sought q same long before.
     settles CycleFault 3 cycle_kind w found sought q same
-    (few_go_on w ps c.args.known c.requires.places (subst (λ (l : List ℕ). length l ≤ 4096) seen (c.are_too_many.ensures.few_places c.if-are_too_many.false)) (c.are_too_many.ensures.few_known c.if-are_too_many.false) q same long
+    (few_go_on w ps c.args.known c.requires.places (subst (λ (l : List ℕ). length l ≤ most_modules) seen (c.are_too_many.ensures.few_places c.if-are_too_many.false)) (c.are_too_many.ensures.few_known c.if-are_too_many.false) q same long
     (goes_on MissingFault 1 missing_kind w _ c.in_ok-fault.ensures c.in_default.is q same before)))
     c.least_cycle.ensures
