@@ -1,9 +1,9 @@
 -- The contents of attributes: what is read stands there, and what stands there is read (JVMS 4.7.2 to 4.7.4).
-use Rattle.std.proofs.Common.{◌≡◌, ℕ, ◌+◌, ◌-◌, ◌<◌, ◌≤◌, List, [], ◌∷◌, ◌++◌, length, take, drop, true, eqb, Option, Ok, refl, sym, ap, ◌∙◌, subst, arith}
+use Rattle.std.proofs.Common.{◌≡◌, ℕ, ◌+◌, ◌<◌, ◌≤◌, List, [], ◌∷◌, ◌++◌, length, take, drop, true, eqb, Option, Ok, refl, sym, ap, ◌∙◌, subst, arith}
 use Rattle.std.specs.Prelude.{◌&&◌}
 use Rattle.std.specs.List.{flat_map, AllByRecursion}
 use Rattle.std.proofs.lemmas.Bool.{eqb-true, eq-eqb, and_parts}
-use Rattle.std.proofs.lemmas.List.{append-nil, drop_all, length-drop}
+use Rattle.std.proofs.lemmas.List.{append-nil, drop_all, length-drop, drop-take}
 use Rattle.jl_reading.specs.Reading.{Stands, IsBytes, number_at, two, four, counted}
 use Rattle.jl_reading.proofs.Stands.{Stands-from_parts, Stands-parts, Along, each_stands, each_again}
 use Rattle.jl_reading.proofs.Steps.{bind_ok, ok_is, bind_to, else_ok}
@@ -13,10 +13,14 @@ use Rattle.jl_class.specs.declared.fault.ClassFault.TheVariants as faults
 use Rattle.jl_class.specs.declared.member.CodeBytes.{CodeBytes}
 use Rattle.jl_class.specs.Faults.{cut_in}
 use Rattle.jl_class.specs.Meaning.{sets_field, names_frames}
-use Rattle.jl_class.specs.Spelling.{IsConstant, IsFrames, HandlerFits, IsCode, handler_bytes, code_bytes, measured, attribute_bytes}
-use Rattle.jl_class.specs.Reading.{constant_at, handler_at, handlers_at, long_text_at, content_end, frames_at, inner_at, code_at}
+use Rattle.jl_class.specs.Spelling.{IsConstant, IsFrames, HandlerFits, IsCode, handler_bytes, code_bytes}
+use Rattle.jl_class.specs.Reading.{constant_at, handler_at, handlers_at, long_text_at, frames_at, inner_at, code_at}
 use Rattle.jl_reading.proofs.Standing.{number_in, number_read, join, first, second, known, ends_at}
-use Rattle.jl_class.proofs.AttributeLaws.{Laws, Held, held_reads, passed_content, AllStand, attributes_stand, attributes_again}
+use Rattle.jl_optable.specs.declared.attributes.AttrForm.TheVariants as forms
+use Rattle.jl_classfile.specs.Places.{content_at}
+use Rattle.jl_classfile.specs.Spelling.{attribute_bytes, measured}
+use Rattle.jl_classfile.proofs.AttributeLaws.{Held, content_window, held_window, held_reads}
+use Rattle.jl_class.proofs.AttributeLaws.{ContentLaws, AllStand, one_stands, one_again}
 
 -- ---- constants
 
@@ -38,7 +42,7 @@ constant_reads flags desc pool place bytes at i content c s =
     let number = subst (λ t. Stands bytes at t (length bytes)) c.1 s in
     bind_to _ (number_read (cut_in place) 2 bytes at i (length bytes) c.0 number) (rw (eq-eqb (length bytes) (length bytes) refl, c.2) refl)
 
-pub constant_laws : (flags : ℕ) (desc : List ℕ) (pool : List Entry) → Laws (constant_at flags desc pool) (IsConstant flags desc pool)
+pub constant_laws : (flags : ℕ) (desc : List ℕ) (pool : List Entry) → ContentLaws (constant_at flags desc pool) (IsConstant flags desc pool)
 constant_laws flags desc pool = record { stand = constant_stands flags desc pool; read = constant_reads flags desc pool }
 
 -- ---- frames
@@ -54,7 +58,7 @@ frames_read place bytes at v content is s =
     let rest : drop at bytes ≡ v = parts ∙ ap (λ (t : List ℕ). content ++ t) (drop_all (length bytes) bytes (omega arith)) ∙ append-nil content ∙ is in
     ap (λ (t : List ℕ). Ok t) rest
 
-pub frames_laws : Laws frames_at IsFrames
+pub frames_laws : ContentLaws frames_at IsFrames
 frames_laws = record { stand = frames_stand; read = frames_read }
 
 -- ---- handlers
@@ -129,25 +133,22 @@ handlers_read place bytes at next hs few fit s =
 long_text_stands : (place : ℕ) (bytes : List ℕ) (at : ℕ) (x : List ℕ × ℕ) → IsBytes bytes → long_text_at place bytes at ≡ Ok x → Held bytes at x.1 x.0
 unfolding long_text_at
 long_text_stands place bytes at x b e =
-    let s = bind_ok (content_end (cut_in place) bytes at) _ x e in
-    let held = (passed_content (cut_in place) bytes at s.0 b s.1).held in
-    subst (λ (y : List ℕ × ℕ). Held bytes at y.1 y.0) (ok_is _ _ s.2) held
+    let s = bind_ok (content_at (cut_in place) bytes at) _ x e in
+    let w = content_window (cut_in place) bytes at s.0 b s.1 in
+    subst (λ (y : List ℕ × ℕ). Held bytes at y.1 y.0) (ok_is _ _ s.2) (held_window bytes at s.0 w)
 
 long_text_reads : (place : ℕ) (bytes : List ℕ) (at next : ℕ) (text : List ℕ) → Held bytes at next text → long_text_at place bytes at ≡ Ok (text, next)
 unfolding long_text_at
 long_text_reads place bytes at next text h =
     let s = second (four (length text)) text h.stands in
-    let len : next - (at + 4) ≡ length text = omega (arith, s.ends) in
     let there : take (length text) (drop (at + 4) bytes) ≡ text = s.there in
-    bind_to _ (held_reads (cut_in place) bytes at next text h) (rw (len, there) refl)
+    let whole : drop (at + 4) (take next bytes) ≡ text = ap (λ (n : ℕ). drop (at + 4) (take n bytes)) s.ends ∙ drop-take (at + 4) (length text) bytes ∙ there in
+    bind_to _ (held_reads (cut_in place) bytes at next text h) (rw whole refl)
 
 -- ---- code
 
 inner_stands : (pool : List Entry) (place : ℕ) (bytes : List ℕ) (at : ℕ) (x : Option (List ℕ) × ℕ) → IsBytes bytes → inner_at pool place bytes at ≡ Ok x → AllStand IsFrames names_frames true pool bytes at x
-unfolding inner_at
-inner_stands pool place bytes at x b e =
-    let s = bind_ok (number_at (cut_in place) 2 bytes at) _ x e in
-    attributes_stand (cut_in place) cut_in names_frames true frames_at IsFrames frames_laws pool bytes at s.0 x b s.1 s.2
+inner_stands pool place bytes at x b e = one_stands (cut_in place) names_frames forms.Frames cut_in true frames_at IsFrames frames_laws pool bytes at x b e
 
 code_stands : (pool : List Entry) (place : ℕ) (bytes : List ℕ) (at : ℕ) (c : CodeBytes) → IsBytes bytes → at ≤ length bytes → code_at pool place bytes at ≡ Ok c
     → (content : List ℕ) × IsCode pool content c × Stands bytes at content (length bytes)
@@ -179,7 +180,7 @@ code_stands pool place bytes at c b le e =
     )
 
 code_reads : (pool : List Entry) (place : ℕ) (bytes : List ℕ) (at : ℕ) (c : CodeBytes) (content : List ℕ) → IsCode pool content c → Stands bytes at content (length bytes) → code_at pool place bytes at ≡ Ok c
-unfolding code_at inner_at
+unfolding code_at
 code_reads pool place bytes at c content is s =
     let inner = counted attribute_bytes is.attributes in
     let handlers = counted handler_bytes c.handlers in
@@ -197,9 +198,9 @@ code_reads pool place bytes at c content is s =
     let p4 = p3 + length handlers in
     let t3 = long_text_reads place bytes (at + 2 + 2) p3 c.code (record { small = is.fits.code; stands = s3 }) in
     let t4 = handlers_read place bytes p3 p4 c.handlers is.fits.few is.fits.handlers s4 in
-    let t5 = attributes_again (cut_in place) cut_in names_frames true frames_at IsFrames frames_laws pool bytes p4 end is.attributes c.frames (record { one = is.frames; allowed = λ _. refl }) is.fit s5 in
+    let t5 = one_again (cut_in place) names_frames forms.Frames cut_in true frames_at IsFrames frames_laws pool bytes p4 end is.attributes c.frames (record { one = is.frames; allowed = λ _. refl }) is.fit s5 in
     bind_to _ (number_read (cut_in place) 2 bytes at c.max_stack (at + 2) is.fits.max_stack s1) (bind_to _ (number_read (cut_in place) 2 bytes (at + 2) c.max_locals (at + 2 + 2) is.fits.max_locals s2)
-    (bind_to _ t3 (bind_to _ t4 (bind_to _ (bind_to _ t5.0 t5.1) (rw (eq-eqb end end refl) refl)))))
+    (bind_to _ t3 (bind_to _ t4 (bind_to _ t5 (rw (eq-eqb end end refl) refl)))))
 
-pub code_laws : (pool : List Entry) → Laws (code_at pool) (IsCode pool)
+pub code_laws : (pool : List Entry) → ContentLaws (code_at pool) (IsCode pool)
 code_laws pool = record { stand = code_stands pool; read = code_reads pool }

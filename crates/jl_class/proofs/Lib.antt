@@ -3,5 +3,7 @@ pub mod ContentLaws
 pub mod FileLaws
 pub mod MemberLaws
 pub mod MethodLaws
-mod PlaceLaws
-mod Rows
+pub mod NestContents
+pub mod NestLaws
+pub mod NestLoops
+pub mod PlaceLaws

@@ -13,11 +13,13 @@ use Rattle.jl_class.specs.declared.member.MemberKey.{MemberKey}
 use Rattle.jl_class.specs.Faults.{short, name_or}
 use Rattle.jl_class.specs.Meaning.{are_field_flags, are_method_flags, has_code, names_method_with, describes_a_field, describes_method_with, field_key, method_key, is_member_among, names_constant_value, names_code}
 use Rattle.jl_pool.specs.Pool.{text_that}
-use Rattle.jl_class.specs.Spelling.{Member, IsConstant, IsCode, IsField, IsMethod, IsTable, HasName, attribute_bytes, member_bytes}
+use Rattle.jl_class.specs.Spelling.{Member, IsConstant, IsCode, IsField, IsMethod, member_bytes}
 use Rattle.jl_class.specs.Reading.{flags_at, named_at, in_file, constant_at, constants_at, code_at, codes_at, field_at, fields_at, method_at, methods_at}
 use Rattle.jl_reading.proofs.Standing.{Number, number_in, number_read, join, first, second}
 use Rattle.jl_reading.proofs.Tables.{Row, EntryStands, EntryReads, Table, table_stands, table_reads}
-use Rattle.jl_class.proofs.AttributeLaws.{AllStand, attributes_stand, attributes_again}
+use Rattle.jl_optable.specs.declared.attributes.AttrForm.TheVariants as forms
+use Rattle.jl_classfile.specs.Spelling.{IsTable, HasName, attribute_bytes}
+use Rattle.jl_class.proofs.AttributeLaws.{AllStand, one_stands, one_again}
 use Rattle.jl_class.proofs.ContentLaws.{constant_laws, code_laws}
 use Rattle.jl_class.proofs.MemberLaws.{Apart, along_distinct, distinct_along}
 
@@ -70,8 +72,7 @@ constants_stand : (flags : ℕ) (desc : List ℕ) (pool : List Entry) (bytes : L
     → AllStand (IsConstant flags desc pool) names_constant_value true pool bytes at x
 unfolding constants_at
 constants_stand flags desc pool bytes at x b e =
-    let s = bind_ok (number_at short 2 bytes at) _ x e in
-    attributes_stand short in_file names_constant_value true (constant_at flags desc pool) (IsConstant flags desc pool) (constant_laws flags desc pool) pool bytes at s.0 x b s.1 s.2
+    one_stands short names_constant_value forms.ConstantIndex in_file true (constant_at flags desc pool) (IsConstant flags desc pool) (constant_laws flags desc pool) pool bytes at x b e
 
 field_stands : (in_interface : Bool) (pool : List Entry) (bytes : List ℕ) → IsBytes bytes → EntryStands bytes member_bytes (IsField in_interface pool) (Apart field_key) (field_at in_interface pool bytes)
 unfolding field_at
@@ -112,17 +113,15 @@ field_reads in_interface pool bytes done at next row f is s fresh =
     let t1 = flags_read (are_field_flags in_interface) bytes at f.flags (at + 2) (subst (λ k. k < 65536) (sym is.flags) is.fits.flags) is.flagged (subst (λ k. Stands bytes at (two k) (at + 2)) (sym is.flags) s1) in
     let t2 = name_reads (text_that names_a_field pool) bytes (at + 2) row.name (at + 2 + 2) f.name is.fits.name is.named s2 in
     let t3 = name_reads (text_that describes_a_field pool) bytes (at + 2 + 2) row.desc (at + 2 + 2 + 2) f.desc is.fits.desc is.described s3 in
-    let t4 = attributes_again short in_file names_constant_value true (constant_at f.flags f.desc pool) (IsConstant f.flags f.desc pool) (constant_laws f.flags f.desc pool) pool bytes (at + 2 + 2 + 2) next row.attributes f.constant
+    let t4 = one_again short names_constant_value forms.ConstantIndex in_file true (constant_at f.flags f.desc pool) (IsConstant f.flags f.desc pool) (constant_laws f.flags f.desc pool) pool bytes (at + 2 + 2 + 2) next row.attributes f.constant
     (record { one = is.constant; allowed = λ _. refl }) is.fits.attributes s4 in
-    bind_to _ t1 (bind_to _ t2 (bind_to _ t3 (rw fresh (bind_to _ (bind_to _ t4.0 t4.1) refl))))
+    bind_to _ t1 (bind_to _ t2 (bind_to _ t3 (rw fresh (bind_to _ t4 refl))))
 
 -- ---- methods
 
 codes_stand : (flags : ℕ) (pool : List Entry) (bytes : List ℕ) (at : ℕ) (x : Option CodeBytes × ℕ) → IsBytes bytes → codes_at flags pool bytes at ≡ Ok x → AllStand (IsCode pool) names_code (has_code flags) pool bytes at x
 unfolding codes_at
-codes_stand flags pool bytes at x b e =
-    let s = bind_ok (number_at short 2 bytes at) _ x e in
-    attributes_stand short in_file names_code (has_code flags) (code_at pool) (IsCode pool) (code_laws pool) pool bytes at s.0 x b s.1 s.2
+codes_stand flags pool bytes at x b e = one_stands short names_code forms.CodeBody in_file (has_code flags) (code_at pool) (IsCode pool) (code_laws pool) pool bytes at x b e
 
 exactly : {V : Type 0} (o : Option V) (has : Bool) → (is_some o ≡ true → has ≡ true) → (has && not (is_some o)) ≡ false → is_some o ≡ has
 exactly None true h e = absurd cc
@@ -174,9 +173,9 @@ method_reads pool bytes done at next row m is s fresh =
     let t1 = flags_read are_method_flags bytes at m.flags (at + 2) (subst (λ k. k < 65536) (sym is.flags) is.fits.flags) is.flagged (subst (λ k. Stands bytes at (two k) (at + 2)) (sym is.flags) s1) in
     let t2 = name_reads (text_that (names_method_with m.flags) pool) bytes (at + 2) row.name (at + 2 + 2) m.name is.fits.name is.named s2 in
     let t3 = name_reads (text_that (describes_method_with m.name) pool) bytes (at + 2 + 2) row.desc (at + 2 + 2 + 2) m.desc is.fits.desc is.described s3 in
-    let t4 = attributes_again short in_file names_code (has_code m.flags) (code_at pool) (IsCode pool) (code_laws pool) pool bytes (at + 2 + 2 + 2) next row.attributes m.code
+    let t4 = one_again short names_code forms.CodeBody in_file (has_code m.flags) (code_at pool) (IsCode pool) (code_laws pool) pool bytes (at + 2 + 2 + 2) next row.attributes m.code
     (record { one = is.code; allowed = λ some. sym is.has ∙ some }) is.fits.attributes s4 in
-    bind_to _ t1 (bind_to _ t2 (bind_to _ t3 (rw fresh (bind_to _ (bind_to _ t4.0 t4.1) (rw (none_lacks m.code (has_code m.flags) is.has) refl)))))
+    bind_to _ t1 (bind_to _ t2 (bind_to _ t3 (rw fresh (bind_to _ t4 (rw (none_lacks m.code (has_code m.flags) is.has) refl)))))
 
 -- ---- their tables
 

@@ -14,4 +14,7 @@ pub record Class : Type 0 where
   pub interfaces : List (List ℕ)
   pub fields : List FieldDecl
   pub methods : List MethodDecl
+  pub nest_host : Option (List ℕ)
+  pub nest_members : List (List ℕ)
+  pub permits : Option (List (List ℕ))
   pub pool : List Entry

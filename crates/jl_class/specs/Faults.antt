@@ -45,8 +45,3 @@ pool_or (Err f) = Err (of_pool f)
 abbrev pub name_or : {A : Type 0} → ℕ → Option A → Result A ClassFault
 name_or at None = Err (faults.Name at)
 name_or at (Some x) = Ok x
-
--- what an index in an attribute must have
-abbrev pub attribute_or : {A : Type 0} → ℕ → Option A → Result A ClassFault
-attribute_or at None = Err (faults.Attribute at)
-attribute_or at (Some x) = Ok x

@@ -10,6 +10,11 @@ use Rattle.jl_names.specs.Descriptors.{descriptor_read}
 use Rattle.jl_names.specs.Names.{names_a_method}
 use Rattle.jl_pool.specs.declared.entry.Entry.{Entry}
 use Rattle.jl_pool.specs.Pool.{class_named, tag_of, entry_tag}
+use Rattle.jl_optable.specs.declared.attributes.AttrForm.{AttrForm}
+use Rattle.jl_optable.specs.declared.attributes.AttrForm.TheVariants as forms
+use Rattle.jl_optable.specs.Attributes.{name_of}
+use Rattle.jl_class.specs.declared.nests.ClassAttribute.{ClassAttribute}
+use Rattle.jl_class.specs.declared.nests.ClassAttribute.TheVariants as attributes
 use Rattle.jl_class.specs.declared.member.FieldDecl.{FieldDecl}
 use Rattle.jl_class.specs.declared.member.MethodDecl.{MethodDecl}
 use Rattle.jl_class.specs.declared.member.MemberKey.{MemberKey}
@@ -176,17 +181,38 @@ may_be_constant flags desc (Some tag) = if is_static flags then is_tag (constant
 abbrev pub sets_field : ℕ → List ℕ → List Entry → ℕ → Bool
 sets_field flags desc pool i = may_be_constant flags desc (tag_of pool i)
 
--- ---- names of attributes (JVMS 4.7)
+-- ---- names and forms of attributes (JVMS 4.7)
 
 abbrev pub names_constant_value : List ℕ → Bool
-names_constant_value name = is_text name (codes "ConstantValue")
+names_constant_value name = is_text name (name_of forms.ConstantIndex)
 
 abbrev pub names_code : List ℕ → Bool
-names_code name = is_text name (codes "Code")
+names_code name = is_text name (name_of forms.CodeBody)
 
 abbrev pub names_frames : List ℕ → Bool
-names_frames name = is_text name (codes "StackMapTable")
+names_frames name = is_text name (name_of forms.Frames)
 
--- no attribute of a class is read
-abbrev pub names_nothing : List ℕ → Bool
-names_nothing name = false
+-- the same form, among those of attributes of a class
+abbrev pub is_form : AttrForm → AttrForm → Bool
+is_form forms.ConstantIndex forms.ConstantIndex = true
+is_form forms.CodeBody forms.CodeBody = true
+is_form forms.Frames forms.Frames = true
+is_form forms.Host forms.Host = true
+is_form forms.Members forms.Members = true
+is_form forms.Components forms.Components = true
+is_form forms.Permits forms.Permits = true
+is_form _ _ = false
+
+-- What was read keeps an attribute of this form out: one of its own form, and a host keeps members out and members a host.
+abbrev pub keeps_out : AttrForm → ClassAttribute → Bool
+keeps_out forms.Host (attributes.Host name) = true
+keeps_out forms.Host (attributes.Members names) = true
+keeps_out forms.Members (attributes.Host name) = true
+keeps_out forms.Members (attributes.Members names) = true
+keeps_out forms.Components attributes.Record = true
+keeps_out forms.Permits (attributes.Permits names) = true
+keeps_out _ _ = false
+
+-- An attribute of a class with these flags may stand behind those that were read. A final class permits nobody.
+abbrev pub may_follow : ℕ → List ClassAttribute → AttrForm → Bool
+may_follow flags done form = not (is_final flags && is_form forms.Permits form) && not (list_any (keeps_out form) done)

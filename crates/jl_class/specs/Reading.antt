@@ -1,30 +1,32 @@
 -- Reading a class file from left to right, with the first fault that is met (JVMS 4.1).
-use Rattle.std.specs.Prelude.{ℕ, ◌+◌, ◌-◌, List, [], length, take, drop, map, Option, None, Some, Result, Ok, Err, Bool, true, not, ◌||◌, ◌&&◌, nat_lt, ◌==◌, is_some, position, ⊤, if◌then◌else◌}
+use Rattle.std.specs.Prelude.{ℕ, List, [], length, drop, map, Option, None, Some, Result, Ok, Err, Bool, true, false, not, ◌&&◌, ◌==◌, is_some, position, ⊤, if◌then◌else◌}
 use Rattle.jl_reading.specs.Reading.{◌>>=◌, number_at, each_at, steps_at}
 use Rattle.jl_prim.specs.declared.declaration.Handler.{Handler}
 use Rattle.jl_names.specs.Names.{names_a_field}
+use Rattle.jl_optable.specs.declared.attributes.AttrForm.{AttrForm}
+use Rattle.jl_optable.specs.declared.attributes.AttrForm.TheVariants as forms
+use Rattle.jl_optable.specs.declared.attributes.Site.TheVariants as sites
+use Rattle.jl_optable.specs.Attributes.{attribute_form}
 use Rattle.jl_pool.specs.declared.entry.Entry.{Entry}
-use Rattle.jl_pool.specs.Pool.{text_of, text_that, class_named}
+use Rattle.jl_pool.specs.Pool.{text_that, class_named}
 use Rattle.jl_pool.specs.Reading.{pool_at}
+use Rattle.jl_classfile.specs.Front.{front_at}
+use Rattle.jl_classfile.specs.Places.{content_at}
+use Rattle.jl_classfile.specs.Attributes.{Reader, alone, attributes_at, first_of, first_that, may_begin, some_or}
 use Rattle.jl_class.specs.declared.fault.ClassFault.{ClassFault}
 use Rattle.jl_class.specs.declared.fault.ClassFault.TheVariants as faults
 use Rattle.jl_class.specs.declared.member.CodeBytes.{CodeBytes}
 use Rattle.jl_class.specs.declared.member.FieldDecl.{FieldDecl}
 use Rattle.jl_class.specs.declared.member.MethodDecl.{MethodDecl}
+use Rattle.jl_class.specs.declared.nests.ClassAttribute.{ClassAttribute}
+use Rattle.jl_class.specs.declared.nests.ClassAttribute.TheVariants as attributes
+use Rattle.jl_class.specs.declared.nests.Nests.{Nests}
 use Rattle.jl_class.specs.Classes.{Class}
-use Rattle.jl_class.specs.Faults.{short, cut_in, pool_or, name_or, attribute_or}
-use Rattle.jl_class.specs.Meaning.{is_interface, are_class_flags, are_field_flags, are_method_flags, has_code, super_named, may_extend, is_of_modules, names_method_with, describes_a_field, describes_method_with, field_key, method_key, is_member_among, sets_field, names_constant_value, names_code, names_frames, names_nothing}
+use Rattle.jl_class.specs.Faults.{short, cut_in, pool_or, name_or}
+use Rattle.jl_class.specs.Meaning.{is_interface, are_class_flags, are_field_flags, are_method_flags, has_code, super_named, may_extend, is_of_modules, names_method_with, describes_a_field, describes_method_with, field_key, method_key, is_member_among, sets_field, names_constant_value, names_code, names_frames, may_follow}
+use Rattle.jl_class.specs.Spelling.{or_nothing}
 
 -- ---- up to the flags
-
--- magic and version, as major and minor
-unfoldable pub front_at : List ℕ → Result ((ℕ × ℕ) × ℕ) ClassFault
-front_at bytes = do
-  magic ← number_at short 4 bytes 0
-  if not (magic.0 == 0xCAFEBABE) then Err faults.Magic else (do
-    minor ← number_at short 2 bytes magic.1
-    major ← number_at short 2 bytes minor.1
-    if (major.0 == 53) || (major.0 == 54) then Ok ((major.0, minor.0), major.1) else Err (faults.Version major.0 minor.0))
 
 -- the least index of an entry that only module declarations have is a fault
 abbrev pub outside_or : Option ℕ → List Entry × ℕ → Result (List Entry × ℕ) ClassFault
@@ -63,39 +65,29 @@ interfaces_at pool bytes at = do
   count ← number_at short 2 bytes at
   each_at (λ done. named_at (class_named pool) bytes) [] count.0 count.1
 
--- ---- attributes, of which those of one name at most are read (JVMS 4.7)
+-- ---- attributes (JVMS 4.7)
 
--- a length in four bytes, and where the content begins and ends
-unfoldable pub content_end : (ℕ → ClassFault) → List ℕ → ℕ → Result (ℕ × ℕ) ClassFault
-content_end cut bytes at = do
-  len ← number_at cut 4 bytes at
-  if nat_lt (length bytes) (len.1 + len.0) then Err (cut len.1) else Ok (len.1, len.1 + len.0)
+-- What reads the attributes of a site: a wrong index of a name, and what may not stand, are faults at the name.
+abbrev pub reader : {V : Type 0} → (List ℕ → Option AttrForm) → (ℕ → ℕ → ClassFault) → (List V → AttrForm → Bool) → (AttrForm → ℕ → List ℕ → ℕ → Result V ClassFault) → Reader AttrForm V ClassFault
+reader form cut may_stand meaning = record {
+  form = form;
+  may_stand = may_stand;
+  unnamed = λ at. faults.Attribute at;
+  refused = λ at k. faults.Attribute at;
+  cut = cut;
+  meaning = meaning;
+}
 
--- What stands in a content, of which the bytes behind it are cut off. There is one at most, and only where there may be one.
-unfoldable pub once_at : {V : Type 0} → (ℕ → ClassFault) → Bool → (List ℕ → ℕ → Result V ClassFault) → ℕ → List ℕ → Option V → ℕ → Result (Option V × ℕ) ClassFault
-once_at cut may one place bytes done at = if is_some done || not may then Err (faults.Attribute place) else (do
-  content ← content_end cut bytes at
-  x ← one (take content.1 bytes) content.0
-  Ok (Some x, content.1))
-
--- the name of an attribute
-unfoldable pub head_at : (ℕ → ClassFault) → List Entry → List ℕ → ℕ → Result (List ℕ × ℕ) ClassFault
-head_at cut pool bytes at = do
-  i ← number_at cut 2 bytes at
-  name ← attribute_or at (text_of pool i.0)
-  Ok (name, i.1)
-
--- An attribute, behind what was read so far. One of another name is passed over.
-unfoldable pub attribute_at : {V : Type 0} → (ℕ → ℕ → ClassFault) → (List ℕ → Bool) → Bool → (ℕ → List ℕ → ℕ → Result V ClassFault) → List Entry → List ℕ → Option V → ℕ → Result (Option V × ℕ) ClassFault
-attribute_at cut is_read may one pool bytes done at = do
-  name ← head_at (cut at) pool bytes at
-  if is_read name.0 then once_at (cut at) may (one at) at bytes done name.1 else (do
-    content ← content_end (cut at) bytes name.1
-    Ok (done, content.1))
-
--- what is not whole in a file is short at its place
+-- what is not whole in an attribute of the file is short at its place
 abbrev pub in_file : ℕ → ℕ → ClassFault
 in_file place at = short at
+
+-- so many attributes, of which one of a name may stand
+unfoldable pub one_at : {V : Type 0} → Reader AttrForm V ClassFault → (ℕ → ClassFault) → List Entry → List ℕ → ℕ → Result (Option V × ℕ) ClassFault
+one_at r count_cut pool bytes at = do
+  count ← number_at count_cut 2 bytes at
+  read ← attributes_at r pool count.0 bytes count.1
+  Ok (first_of read.0, read.1)
 
 -- the value of a ConstantValue attribute (JVMS 4.7.2), which is all of the bytes from a place on
 unfoldable pub constant_at : ℕ → List ℕ → List Entry → ℕ → List ℕ → ℕ → Result ℕ ClassFault
@@ -104,10 +96,11 @@ constant_at flags desc pool place bytes at = do
   if (i.1 == length bytes) && sets_field flags desc pool i.0 then Ok i.0 else Err (faults.Attribute place)
 
 -- the constant of a field
+abbrev pub constant_reader : ℕ → List ℕ → List Entry → Reader AttrForm ℕ ClassFault
+constant_reader flags desc pool = reader (alone names_constant_value forms.ConstantIndex) in_file (may_begin true) (λ form. constant_at flags desc pool)
+
 unfoldable pub constants_at : ℕ → List ℕ → List Entry → List ℕ → ℕ → Result (Option ℕ × ℕ) ClassFault
-constants_at flags desc pool bytes at = do
-  count ← number_at short 2 bytes at
-  steps_at (attribute_at in_file names_constant_value true (constant_at flags desc pool) pool bytes) count.0 None count.1
+constants_at flags desc pool bytes at = one_at (constant_reader flags desc pool) short pool bytes at
 
 -- a handler of a Code attribute (JVMS 4.7.3)
 unfoldable pub handler_at : ℕ → List ℕ → ℕ → Result (Handler × ℕ) ClassFault
@@ -126,18 +119,19 @@ handlers_at place bytes at = do
 -- a length in four bytes, and so many bytes
 unfoldable pub long_text_at : ℕ → List ℕ → ℕ → Result (List ℕ × ℕ) ClassFault
 long_text_at place bytes at = do
-  content ← content_end (cut_in place) bytes at
-  Ok (take (content.1 - content.0) (drop content.0 bytes), content.1)
+  content ← content_at (cut_in place) bytes at
+  Ok (drop content.0.1 content.0.0, content.1)
 
 -- the bytes of a StackMapTable attribute (JVMS 4.7.4), as they are
 abbrev pub frames_at : ℕ → List ℕ → ℕ → Result (List ℕ) ClassFault
 frames_at place bytes at = Ok (drop at bytes)
 
 -- The attributes of a Code attribute. What is wrong in one of them is wrong at its name.
-unfoldable pub inner_at : List Entry → ℕ → List ℕ → ℕ → Result (Option (List ℕ) × ℕ) ClassFault
-inner_at pool place bytes at = do
-  count ← number_at (cut_in place) 2 bytes at
-  steps_at (attribute_at cut_in names_frames true frames_at pool bytes) count.0 None count.1
+abbrev pub frames_reader : Reader AttrForm (List ℕ) ClassFault
+frames_reader = reader (alone names_frames forms.Frames) cut_in (may_begin true) (λ form. frames_at)
+
+abbrev pub inner_at : List Entry → ℕ → List ℕ → ℕ → Result (Option (List ℕ) × ℕ) ClassFault
+inner_at pool place = one_at frames_reader (cut_in place) pool
 
 -- a Code attribute (JVMS 4.7.3), which is all of the bytes from a place on
 unfoldable pub code_at : List Entry → ℕ → List ℕ → ℕ → Result CodeBytes ClassFault
@@ -152,19 +146,95 @@ code_at pool place bytes at = do
       else Err (faults.Attribute place)
 
 -- the code of a method
+abbrev pub code_reader : ℕ → List Entry → Reader AttrForm CodeBytes ClassFault
+code_reader flags pool = reader (alone names_code forms.CodeBody) in_file (may_begin (has_code flags)) (λ form. code_at pool)
+
 unfoldable pub codes_at : ℕ → List Entry → List ℕ → ℕ → Result (Option CodeBytes × ℕ) ClassFault
-codes_at flags pool bytes at = do
-  count ← number_at short 2 bytes at
-  steps_at (attribute_at in_file names_code (has_code flags) (code_at pool) pool bytes) count.0 None count.1
+codes_at flags pool bytes at = one_at (code_reader flags pool) short pool bytes at
 
-abbrev pub nothing_at : ℕ → List ℕ → ℕ → Result ⊤ ClassFault
-nothing_at place bytes at = Ok tt
+-- ---- attributes of a class (JVMS 4.7.28 to 4.7.31)
 
--- attributes none of which is read
-unfoldable pub others_at : List Entry → List ℕ → ℕ → Result (Option ⊤ × ℕ) ClassFault
-others_at pool bytes at = do
+-- all of a content was read
+abbrev pub whole : {A : Type 0} → ℕ → List ℕ → A × ℕ → Result A ClassFault
+whole place bytes x = if x.1 == length bytes then Ok x.0 else Err (faults.Attribute place)
+
+-- an index in the attribute at a place, as what it names
+unfoldable pub named_in : {A : Type 0} → ℕ → (ℕ → Option A) → List ℕ → ℕ → Result (A × ℕ) ClassFault
+named_in place named bytes at = do
+  i ← number_at (cut_in place) 2 bytes at
+  name ← some_or (faults.Attribute place) (named i.0)
+  Ok (name, i.1)
+
+-- the host of a nest
+unfoldable pub host_at : List Entry → ℕ → List ℕ → ℕ → Result (List ℕ) ClassFault
+host_at pool place bytes at = named_in place (class_named pool) bytes at >>= whole place bytes
+
+-- a count, and so many classes
+unfoldable pub listed_at : List Entry → ℕ → List ℕ → ℕ → Result (List (List ℕ) × ℕ) ClassFault
+listed_at pool place bytes at = do
+  count ← number_at (cut_in place) 2 bytes at
+  each_at (λ done. named_in place (class_named pool) bytes) [] count.0 count.1
+
+unfoldable pub classes_at : List Entry → ℕ → List ℕ → ℕ → Result (List (List ℕ)) ClassFault
+classes_at pool place bytes at = listed_at pool place bytes at >>= whole place bytes
+
+-- the attributes of a component are passed over
+abbrev pub passing_reader : Reader AttrForm ℕ ClassFault
+passing_reader = reader (λ name. None) cut_in (λ done form. false) (λ form place bytes at. Err (faults.Attribute place))
+
+-- a component of a record, of which nothing is kept
+unfoldable pub component_at : List Entry → ℕ → List ℕ → ℕ → Result (⊤ × ℕ) ClassFault
+component_at pool place bytes at = do
+  name ← named_in place (text_that names_a_field pool) bytes at
+  desc ← named_in place (text_that describes_a_field pool) bytes name.1
+  others ← one_at passing_reader (cut_in place) pool bytes desc.1
+  Ok (tt, others.1)
+
+unfoldable pub each_component_at : List Entry → ℕ → List ℕ → ℕ → ℕ → Result (⊤ × ℕ) ClassFault
+each_component_at pool place bytes count at = steps_at (λ done. component_at pool place bytes) count tt at
+
+-- a count, and so many components
+unfoldable pub components_at : List Entry → ℕ → List ℕ → ℕ → Result (⊤ × ℕ) ClassFault
+components_at pool place bytes at = do
+  count ← number_at (cut_in place) 2 bytes at
+  each_component_at pool place bytes count.0 count.1
+
+unfoldable pub record_at : List Entry → ℕ → List ℕ → ℕ → Result ⊤ ClassFault
+record_at pool place bytes at = components_at pool place bytes at >>= whole place bytes
+
+-- what the content of an attribute of a form means
+unfoldable pub meaning_at : List Entry → AttrForm → ℕ → List ℕ → ℕ → Result ClassAttribute ClassFault
+meaning_at pool forms.Host place bytes at = host_at pool place bytes at >>= λ name. Ok (attributes.Host name)
+meaning_at pool forms.Members place bytes at = classes_at pool place bytes at >>= λ names. Ok (attributes.Members names)
+meaning_at pool forms.Components place bytes at = record_at pool place bytes at >>= λ kept. Ok attributes.Record
+meaning_at pool forms.Permits place bytes at = classes_at pool place bytes at >>= λ names. Ok (attributes.Permits names)
+meaning_at pool _ place bytes at = Err (faults.Attribute place)
+
+-- the attributes of a class with these flags, in a file of a major version
+abbrev pub class_reader : ℕ → ℕ → List Entry → Reader AttrForm ClassAttribute ClassFault
+class_reader major flags pool = reader (attribute_form sites.Class major) in_file (may_follow flags) (meaning_at pool)
+
+abbrev pub host_in : ClassAttribute → Option (List ℕ)
+host_in (attributes.Host name) = Some name
+host_in _ = None
+
+abbrev pub members_in : ClassAttribute → Option (List (List ℕ))
+members_in (attributes.Members names) = Some names
+members_in _ = None
+
+abbrev pub permits_in : ClassAttribute → Option (List (List ℕ))
+permits_in (attributes.Permits names) = Some names
+permits_in _ = None
+
+-- what the attributes of a class declare together
+abbrev pub nests_of : List ClassAttribute → Nests
+nests_of read = record { host = first_that host_in read; members = or_nothing (first_that members_in read); permits = first_that permits_in read }
+
+unfoldable pub nests_at : ℕ → ℕ → List Entry → List ℕ → ℕ → Result (Nests × ℕ) ClassFault
+nests_at major flags pool bytes at = do
   count ← number_at short 2 bytes at
-  steps_at (attribute_at in_file names_nothing true nothing_at pool bytes) count.0 None count.1
+  read ← attributes_at (class_reader major flags pool) pool count.0 bytes count.1
+  Ok (nests_of read.0, read.1)
 
 -- ---- members (JVMS 4.5, 4.6)
 
@@ -204,7 +274,7 @@ methods_at pool bytes at = do
 -- the class in a file, or its first fault
 unfoldable pub class_of : List ℕ → Result Class ClassFault
 class_of bytes = do
-  version ← front_at bytes
+  version ← front_at short faults.Magic faults.Version bytes 0
   pool ← class_pool_at bytes version.1
   flags ← flags_at are_class_flags bytes pool.1
   name ← named_at (class_named pool.0) bytes flags.1
@@ -212,8 +282,8 @@ class_of bytes = do
   interfaces ← interfaces_at pool.0 bytes super.1
   fields ← fields_at (is_interface flags.0) pool.0 bytes interfaces.1
   methods ← methods_at pool.0 bytes fields.1
-  others ← others_at pool.0 bytes methods.1
-  if others.1 == length bytes then Ok (record {
+  nests ← nests_at version.0.0 flags.0 pool.0 bytes methods.1
+  if nests.1 == length bytes then Ok (record {
     major = version.0.0;
     minor = version.0.1;
     flags = flags.0;
@@ -222,5 +292,8 @@ class_of bytes = do
     interfaces = interfaces.0;
     fields = fields.0;
     methods = methods.0;
+    nest_host = nests.0.host;
+    nest_members = nests.0.members;
+    permits = nests.0.permits;
     pool = pool.0;
   }) else Err faults.Trailing

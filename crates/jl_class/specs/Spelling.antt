@@ -1,27 +1,26 @@
 -- The spelling of a class file: a relation between its bytes and a class (JVMS 4.1).
-use Rattle.std.specs.Prelude.{◌≡◌, ℕ, ◌<◌, List, [], ◌∷◌, ◌++◌, length, map, filter, position, Option, None, Some, IsTrue, Bool, false, is_some, ◌⊎◌}
+use Rattle.std.specs.Prelude.{◌≡◌, ℕ, ◌<◌, List, [], ◌++◌, length, position, Option, None, Some, IsTrue, Bool, true, false, is_some, ◌&&◌, ⊤}
 use Rattle.std.specs.List.{AllByRecursion}
-use Rattle.jl_logic.specs.Lists.{AreDistinct}
 use Rattle.jl_logic.specs.Lists.{Match}
-use Rattle.jl_reading.specs.Reading.{counted, Stands, two, four}
+use Rattle.jl_reading.specs.Reading.{counted, Stands, two}
 use Rattle.jl_prim.specs.declared.declaration.Handler.{Handler}
 use Rattle.jl_names.specs.Names.{names_a_field}
+use Rattle.jl_optable.specs.declared.attributes.AttrForm.{AttrForm}
+use Rattle.jl_optable.specs.declared.attributes.AttrForm.TheVariants as forms
+use Rattle.jl_optable.specs.declared.attributes.Site.TheVariants as sites
+use Rattle.jl_optable.specs.Attributes.{attribute_form}
 use Rattle.jl_pool.specs.declared.entry.Entry.{Entry}
-use Rattle.jl_pool.specs.Pool.{text_of, text_that, class_named}
+use Rattle.jl_pool.specs.Pool.{text_that, class_named}
 use Rattle.jl_pool.specs.Spelling.{StandsPool}
+use Rattle.jl_classfile.specs.Front.{is_version, front_bytes}
+use Rattle.jl_classfile.specs.Spelling.{Attribute, AreAttributes, AtMostOne, HasName, IsTable, attribute_bytes, contents, is_some_that, measured}
 use Rattle.jl_class.specs.declared.member.CodeBytes.{CodeBytes}
 use Rattle.jl_class.specs.declared.member.FieldDecl.{FieldDecl}
 use Rattle.jl_class.specs.declared.member.MethodDecl.{MethodDecl}
-use Rattle.jl_class.specs.declared.member.MemberKey.{MemberKey}
 use Rattle.jl_class.specs.Classes.{Class}
-use Rattle.jl_class.specs.Meaning.{is_interface, are_class_flags, are_field_flags, are_method_flags, has_code, super_named, may_extend, is_of_modules, names_method_with, describes_a_field, describes_method_with, field_key, method_key, sets_field, names_constant_value, names_code, names_frames}
+use Rattle.jl_class.specs.Meaning.{is_interface, is_final, are_class_flags, are_field_flags, are_method_flags, has_code, super_named, may_extend, is_of_modules, names_method_with, describes_a_field, describes_method_with, field_key, method_key, sets_field, names_constant_value, names_code, names_frames, is_form}
 
 -- ---- the parts of a file, by numbers
-
--- any attribute: the index of its name, and its content
-pub record Attribute : Type 0 where
-  pub index : ℕ
-  pub content : List ℕ
 
 -- a field or a method
 pub record Member : Type 0 where
@@ -41,13 +40,6 @@ pub record Parts : Type 0 where
 
 -- ---- their bytes
 
--- a length, and so many bytes
-abbrev pub measured : List ℕ → List ℕ
-measured text = four (length text) ++ text
-
-abbrev pub attribute_bytes : Attribute → List ℕ
-attribute_bytes a = two a.index ++ measured a.content
-
 abbrev pub member_bytes : Member → List ℕ
 member_bytes m = two m.flags ++ (two m.name ++ (two m.desc ++ counted attribute_bytes m.attributes))
 
@@ -65,28 +57,7 @@ back_bytes flags p =
     two flags ++ (two p.this ++ (two p.super ++ (counted two p.interfaces
     ++ (counted member_bytes p.fields ++ (counted member_bytes p.methods ++ counted attribute_bytes p.attributes)))))
 
--- ---- attributes (JVMS 4.7)
-
-abbrev pub is_some_named : (List ℕ → Bool) → Option (List ℕ) → Bool
-is_some_named is_read None = false
-is_some_named is_read (Some name) = is_read name
-
--- the contents of the attributes with names that are read
-abbrev pub contents : List Entry → (List ℕ → Bool) → List Attribute → List (List ℕ)
-contents pool is_read attributes = map (λ (a : Attribute). a.content) (filter (λ (a : Attribute). is_some_named is_read (text_of pool a.index)) attributes)
-
--- an attribute has a name, and its numbers fit their bytes
-abbrev pub AttributeFits : List Entry → Attribute → Type 0
-AttributeFits pool a = (a.index < 65536) × (length a.content < 4294967296) × ((name : List ℕ) × (text_of pool a.index ≡ Some name))
-
-pub record AreAttributes (pool : List Entry) (attributes : List Attribute) : Type 0 where
-  pub few : length attributes < 65536
-  pub fit : AllByRecursion (AttributeFits pool) attributes
-
--- at most one of the contents, and what it means
-abbrev pub AtMostOne : {V : Type 0} → (List ℕ → V → Type 0) → List (List ℕ) → Option V → Type 0
-AtMostOne M cs None = cs ≡ []
-AtMostOne {V} M cs (Some v) = (c : List ℕ) × (cs ≡ c ∷ []) × M c v
+-- ---- contents of attributes (JVMS 4.7)
 
 -- the content of a ConstantValue attribute (JVMS 4.7.2)
 abbrev pub IsConstant : ℕ → List ℕ → List Entry → List ℕ → ℕ → Type 0
@@ -143,15 +114,60 @@ pub record IsMethod (pool : List Entry) (m : Member) (d : MethodDecl) : Type 0 w
   pub code : AtMostOne (IsCode pool) (contents pool names_code m.attributes) d.code
   pub has : is_some d.code ≡ has_code d.flags
 
--- A table declares these members, no two of which have one name and descriptor.
-pub record IsTable {B : Type 0} (R : Member → B → Type 0) (key : B → MemberKey) (rows : List Member) (members : List B) : Type 0 where
-  pub few : length rows < 65536
-  pub each : Match R rows members
-  pub distinct : AreDistinct (map key members)
+-- ---- attributes of a class (JVMS 4.7.28 to 4.7.31)
 
--- an index of two bytes has this name
-abbrev pub HasName : {A : Type 0} → (ℕ → Option A) → ℕ → A → Type 0
-HasName named i name = (i < 65536) × (named i ≡ Some name)
+-- a component of a record (JVMS 4.7.30)
+pub record Component : Type 0 where
+  pub name : ℕ
+  pub desc : ℕ
+  pub attributes : List Attribute
+
+abbrev pub component_bytes : Component → List ℕ
+component_bytes c = two c.name ++ (two c.desc ++ counted attribute_bytes c.attributes)
+
+-- it has the name and the type of a field
+pub record IsComponent (pool : List Entry) (c : Component) : Type 0 where
+  pub named : (name : List ℕ) × HasName (text_that names_a_field pool) c.name name
+  pub described : (desc : List ℕ) × HasName (text_that describes_a_field pool) c.desc desc
+  pub attributes : AreAttributes pool c.attributes
+
+-- the content of a Record attribute, of which nothing is kept
+pub record IsRecord (pool : List Entry) (content : List ℕ) (kept : ⊤) : Type 0 where
+  pub components : List Component
+  pub is : content ≡ counted component_bytes components
+  pub few : length components < 65536
+  pub each : AllByRecursion (IsComponent pool) components
+
+-- the content of a NestHost attribute
+abbrev pub IsHost : List Entry → List ℕ → List ℕ → Type 0
+IsHost pool content name = (i : ℕ) × (content ≡ two i) × HasName (class_named pool) i name
+
+-- the content of a NestMembers or a PermittedSubclasses attribute
+pub record AreClasses (pool : List Entry) (content : List ℕ) (names : List (List ℕ)) : Type 0 where
+  pub indices : List ℕ
+  pub is : content ≡ counted two indices
+  pub few : length indices < 65536
+  pub each : Match (HasName (class_named pool)) indices names
+
+-- the names of the attributes of a form that are read in a class of a major version
+abbrev pub names_form : ℕ → AttrForm → List ℕ → Bool
+names_form major form name = is_some_that (is_form form) (attribute_form sites.Class major name)
+
+abbrev pub or_nothing : {A : Type 0} → Option (List A) → List A
+or_nothing None = []
+or_nothing (Some xs) = xs
+
+-- The attributes declare the nest of the class and who may extend it. A host is not beside members, and a final class permits nobody.
+pub record HaveNests (c : Class) (attributes : List Attribute) : Type 0 where
+  pub host : AtMostOne (IsHost c.pool) (contents c.pool (names_form c.major forms.Host) attributes) c.nest_host
+  pub members : Option (List (List ℕ))
+  pub listed : AtMostOne (AreClasses c.pool) (contents c.pool (names_form c.major forms.Members) attributes) members
+  pub members_are : c.nest_members ≡ or_nothing members
+  pub apart : is_some c.nest_host && is_some members ≡ false
+  pub record_kept : Option ⊤
+  pub components : AtMostOne (IsRecord c.pool) (contents c.pool (names_form c.major forms.Components) attributes) record_kept
+  pub permits : AtMostOne (AreClasses c.pool) (contents c.pool (names_form c.major forms.Permits) attributes) c.permits
+  pub extended : is_some c.permits && is_final c.flags ≡ false
 
 -- ---- the whole file
 
@@ -167,14 +183,15 @@ pub record Declares (p : Parts) (c : Class) : Type 0 where
   pub fields : IsTable (IsField (is_interface c.flags) c.pool) field_key p.fields c.fields
   pub methods : IsTable (IsMethod c.pool) method_key p.methods c.methods
   pub attributes : AreAttributes c.pool p.attributes
+  pub nests : HaveNests c p.attributes
 
 -- The bytes are a class file that declares c.
 pub record IsClass (bytes : List ℕ) (c : Class) : Type 0 where
   pub parts : Parts
   pub pool_end : ℕ
   pub minor : c.minor < 65536
-  pub version : (c.major ≡ 53) ⊎ (c.major ≡ 54)
-  pub front : Stands bytes 0 (four 0xCAFEBABE ++ (two c.minor ++ two c.major)) 8
+  pub version : is_version c.major c.minor ≡ true
+  pub front : Stands bytes 0 (front_bytes c.major c.minor) 8
   pub pool : StandsPool bytes 8 c.pool pool_end
   pub inside : position is_of_modules c.pool ≡ None
   pub back : Stands bytes pool_end (back_bytes c.flags parts) (length bytes)

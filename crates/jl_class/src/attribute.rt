@@ -1,82 +1,131 @@
-//! Attributes (JVMS 4.7), of which those of one name are read and all others are passed over.
+//! Attributes (JVMS 4.7) of a site, of which those of some forms are read.
 
-ghost use Rattle.std.specs.Prelude.{◌≡◌, ◌≤◌, length, IfOk, None, true};
-ghost use Rattle.jl_logic.specs.Answers.{Gives};
-ghost use Rattle.jl_class.specs.Faults.{told, cut};
-ghost use Rattle.jl_class.specs.Meaning.{names_nothing};
-ghost use Rattle.jl_class.specs.Reading.{head_at, content_end, attribute_at, in_file, nothing_at};
-ghost use Rattle.jl_reading.specs.Reading.{steps_at};
+ghost use Rattle.std.specs.Prelude.{◌≡◌, None};
+ghost use Rattle.jl_reading.specs.Reading.{number_at};
+ghost use Rattle.jl_logic.specs.Order.{is_text};
+ghost use Rattle.jl_classfile.specs.Places.{Reads};
+ghost use Rattle.jl_classfile.specs.Attributes.{alone};
+ghost use Rattle.jl_optable.specs.Attributes.{name_of};
+ghost use Rattle.jl_class.specs.Faults.{cut, told};
 ghost use Rattle.jl_class.specs.Reading as reading;
 
 use crate::fault::ClassFault;
 use crate::source::Source;
+use jl_classfile::{AttributeReader, Place, attributes_at, first};
+use jl_optable::AttrForm;
 use jl_pool::Pool;
 use jl_prim::Name;
-use jl_reading::{is_whole, u16_at};
+use std::alloc::Global;
 
-/// The name of the attribute at a place, and the place after the index of the name.
-#[tactic(auto, unfolding(crate::specs::Reading::head_at))]
-pub fn head<'a>(
+/// The attributes of a site, and what each that is read means.
+pub trait Site<V>: Sized {
+    ghost use Rattle.std.specs.Prelude.{◌≡◌, ℕ, List, Option, Result, Bool};
+    ghost use Rattle.jl_logic.specs.Answers.{Gives};
+    ghost use Rattle.jl_optable.specs.declared.attributes.AttrForm.{AttrForm};
+    ghost use Rattle.jl_class.specs.declared.fault.ClassFault.{ClassFault};
+    ghost use Rattle.jl_class.specs.Faults.{told};
+
+    ghost form_of: { Self → List ℕ → Option AttrForm };
+
+    ghost may_stand: { Self → List V → AttrForm → Bool };
+
+    ghost cut_at: { Self → ℕ → ℕ → ClassFault };
+
+    ghost means: { Self → AttrForm → ℕ → List ℕ → ℕ → Result V ClassFault };
+
+    /// The form of the attributes of a name, where they are read.
+    fn form(&self, name: &Name) -> Option<AttrForm>
+        ensures { result ≡ form_of self.now name.now };
+
+    /// Whether an attribute of a form may stand behind those with these meanings.
+    fn may(&self, done: &[V], form: AttrForm) -> bool
+        ensures { result ≡ may_stand self.now done.now form };
+
+    /// The fault of what is not whole at the second place, in the attribute at the first.
+    fn cut(&self, attribute: usize, at: usize) -> ClassFault
+        ensures { result ≡ cut_at self.now attribute at };
+
+    /// What a content means in the attribute at a place.
+    fn meaning(
+        &self,
+        alloc: Global,
+        form: AttrForm,
+        attribute: usize,
+        content: Place<'_>,
+    ) -> Result<V, ClassFault>
+        ensures { Gives told (λ v. v) result (means self.now form attribute content.entry.bytes.now content.entry.at) };
+}
+
+/// The reader of a site's attributes.
+#[derive(Drop)]
+pub struct Attributes<S> {
+    pub site: S,
+}
+
+impl<V, S: Site<V>> AttributeReader<AttrForm, V, ClassFault> for Attributes<S> {
+    ghost use Rattle.jl_class.specs.Reading.{reader as reader_of};
+
+    ghost reader = { λ all. reader_of (S.form_of all.site) (S.cut_at all.site) (S.may_stand all.site) (S.means all.site) };
+
+    fn form(&self, name: &Name) -> Option<AttrForm> {
+        self.site.form(name)
+    }
+
+    fn may_stand(&self, done: &[V], form: AttrForm) -> bool {
+        self.site.may(done, form)
+    }
+
+    fn unnamed(&self, place: usize) -> ClassFault {
+        ClassFault::Attribute(place)
+    }
+
+    fn refused(&self, _alloc: Global, place: usize, _form: AttrForm) -> ClassFault {
+        ClassFault::Attribute(place)
+    }
+
+    fn cut(&self, place: usize, at: usize) -> ClassFault {
+        self.site.cut(place, at)
+    }
+
+    fn no_memory(&self) -> ClassFault {
+        ClassFault::NoMemory
+    }
+
+    fn meaning(
+        &self,
+        alloc: Global,
+        form: AttrForm,
+        place: usize,
+        content: Place<'_>,
+    ) -> Result<V, ClassFault> {
+        self.site.meaning(alloc, form, place, content)
+    }
+}
+
+/// What the one attribute that is read means, of those whose count stands at a place.
+#[tactic(auto, unfolding(crate::specs::Reading::one_at))]
+pub fn one_at<'a, V: Drop, S: Site<V> + Drop>(
+    alloc: Global,
+    site: S,
     source: Source,
-    pool: &'a Pool,
-    bytes: &[u8],
-    at: usize,
-) -> Result<(&'a Name, usize), ClassFault>
-    requires { at ≤ length bytes.now }
-    ensures exact { Gives told (λ x. (x.0.now, x.1)) result (head_at (cut source) pool.now bytes.now at) }
-    ensures within { IfOk result (λ x. x.1 ≤ length bytes.now) }
+    pool: &Pool,
+    place: Place<'a>,
+) -> Result<(Option<V>, Place<'a>), ClassFault>
+    ensures { Reads told (λ v. v) place.entry result (reading.one_at (reading.reader (S.form_of site) (S.cut_at site) (S.may_stand site) (S.means site)) (cut source) pool.now) }
 {
-    let (index, next) = source.u16_at(bytes, at)?;
-    match pool.text(index) {
-        Some(name) => Ok((name, next)),
-        None => Err(ClassFault::Attribute(at)),
-    }
+    let (count, place) = source.u16(place)?;
+    let reader = Attributes { site };
+    let (read, place) = attributes_at(alloc, &reader, pool, count, place)?;
+    Ok((first(read), place))
 }
 
-/// Where a content begins and ends whose length stands at a place.
-#[tactic(auto, unfolding(crate::specs::Reading::content_end))]
-pub fn content(source: Source, bytes: &[u8], at: usize) -> Result<(usize, usize), ClassFault>
-    requires { at ≤ length bytes.now }
-    ensures exact { Gives told (λ x. x) result (content_end (cut source) bytes.now at) }
-    ensures within { IfOk result (λ x. (x.0 ≤ x.1) × (x.1 ≤ length bytes.now)) }
+/// The form, where attributes of a name have it.
+pub fn named(name: &Name, form: AttrForm) -> Option<AttrForm>
+    ensures { result ≡ alone (λ text. is_text text (name_of form)) form name.now }
 {
-    let (count, at) = source.u32_at(bytes, at)?;
-    let count = count as usize;
-    if is_whole(bytes, at, count) {
-        Ok((at, at + count))
+    if name.as_str() == form.name() {
+        Some(form)
     } else {
-        Err(source.cut(at))
+        None
     }
-}
-
-/// The place after the attributes whose count stands at a place. All are passed over.
-#[tactic(auto, unfolding(crate::specs::Reading::others_at))]
-pub fn pass_attributes(pool: &Pool, bytes: &[u8], at: usize) -> Result<usize, ClassFault>
-    requires { at ≤ length bytes.now }
-    ensures { Gives told (λ next. (None, next)) result (reading.others_at pool.now bytes.now at) }
-{
-    let (count, at) = u16_at::<ClassFault>(bytes, at)?;
-    pass_each(pool, count, bytes, at)
-}
-
-fn pass_each(pool: &Pool, count: u16, bytes: &[u8], at: usize) -> Result<usize, ClassFault>
-    requires { at ≤ length bytes.now }
-    ensures { Gives told (λ next. (None, next)) result (steps_at (attribute_at in_file names_nothing true nothing_at pool.now bytes.now) count None at) }
-{
-    let mut next = at;
-    for _ in 0..count {
-        next = pass(pool, bytes, next)?;
-    }
-    Ok(next)
-}
-
-#[tactic(auto, unfolding(crate::specs::Reading::attribute_at))]
-fn pass(pool: &Pool, bytes: &[u8], at: usize) -> Result<usize, ClassFault>
-    requires { at ≤ length bytes.now }
-    ensures exact { Gives told (λ next. (None, next)) result (attribute_at in_file names_nothing true nothing_at pool.now bytes.now None at) }
-    ensures within { IfOk result (λ next. next ≤ length bytes.now) }
-{
-    let (_name, next) = head(Source::File, pool, bytes, at)?;
-    let (_start, end) = content(Source::File, bytes, next)?;
-    Ok(end)
 }

@@ -8,6 +8,7 @@ ghost use Rattle.jl_class.specs.declared.member.FieldDecl.{FieldDecl};
 ghost use Rattle.jl_class.specs.declared.member.MethodDecl.{MethodDecl};
 
 use crate::member::{FieldDecl, MethodDecl};
+use crate::nests::Nests;
 use jl_pool::Pool;
 use jl_prim::{Items, Name};
 use std::marker::Model;
@@ -24,6 +25,9 @@ pub struct ClassDecl {
     interfaces: Items<Name>,
     fields: Items<FieldDecl>,
     methods: Items<MethodDecl>,
+    nest_host: Option<Name>,
+    nest_members: Items<Name>,
+    permits: Option<Items<Name>>,
     pool: Pool,
 }
 
@@ -34,10 +38,10 @@ impl Model for ClassDecl {
 
     ghost Value = { Class };
 
-    ghost view = { λ c. record { major = c.major; minor = c.minor; flags = c.flags; name = c.name; super_name = c.super_name; interfaces = c.interfaces; fields = c.fields; methods = c.methods; pool = c.pool } };
+    ghost view = { λ c. record { major = c.major; minor = c.minor; flags = c.flags; name = c.name; super_name = c.super_name; interfaces = c.interfaces; fields = c.fields; methods = c.methods; nest_host = c.nest_host; nest_members = c.nest_members; permits = c.permits; pool = c.pool } };
 
     // Some class file declares it.
-    ghost invariant = { λ c. (bytes : List ℕ) × IsClass bytes (record { major = c.major; minor = c.minor; flags = c.flags; name = c.name; super_name = c.super_name; interfaces = c.interfaces; fields = c.fields; methods = c.methods; pool = c.pool }) };
+    ghost invariant = { λ c. (bytes : List ℕ) × IsClass bytes (record { major = c.major; minor = c.minor; flags = c.flags; name = c.name; super_name = c.super_name; interfaces = c.interfaces; fields = c.fields; methods = c.methods; nest_host = c.nest_host; nest_members = c.nest_members; permits = c.permits; pool = c.pool }) };
 }
 
 impl ClassDecl {
@@ -50,12 +54,18 @@ impl ClassDecl {
         interfaces: Items<Name>,
         fields: Items<FieldDecl>,
         methods: Items<MethodDecl>,
+        nests: Nests,
         pool: Pool,
     ) -> ClassDecl
-        requires { (bytes : List ℕ) × IsClass bytes (record { major = version.0; minor = version.1; flags = flags; name = name; super_name = super_name; interfaces = interfaces; fields = fields; methods = methods; pool = pool }) }
-        ensures { result ≡ record { major = version.0; minor = version.1; flags = flags; name = name; super_name = super_name; interfaces = interfaces; fields = fields; methods = methods; pool = pool } }
+        requires { (bytes : List ℕ) × IsClass bytes (record { major = version.0; minor = version.1; flags = flags; name = name; super_name = super_name; interfaces = interfaces; fields = fields; methods = methods; nest_host = nests.host; nest_members = nests.members; permits = nests.permits; pool = pool }) }
+        ensures { result ≡ record { major = version.0; minor = version.1; flags = flags; name = name; super_name = super_name; interfaces = interfaces; fields = fields; methods = methods; nest_host = nests.host; nest_members = nests.members; permits = nests.permits; pool = pool } }
     {
         let (major, minor) = version;
+        let Nests {
+            host,
+            members,
+            permits,
+        } = nests;
         ClassDecl {
             major,
             minor,
@@ -65,6 +75,9 @@ impl ClassDecl {
             interfaces,
             fields,
             methods,
+            nest_host: host,
+            nest_members: members,
+            permits,
             pool,
         }
     }
@@ -116,6 +129,27 @@ impl ClassDecl {
         ensures { result.now ≡ self.now.methods }
     {
         self.methods.as_slice()
+    }
+
+    /// The name of the host of its nest, where the file names one (JVMS 4.7.28).
+    pub fn nest_host(&self) -> Option<&Name>
+        ensures { option_copied result ≡ self.now.nest_host }
+    {
+        self.nest_host.as_ref()
+    }
+
+    /// The names of the members of its nest that it lists (JVMS 4.7.29).
+    pub fn nest_members(&self) -> &[Name]
+        ensures { result.now ≡ self.now.nest_members }
+    {
+        self.nest_members.as_slice()
+    }
+
+    /// The names of the classes that may extend it, where the file lists them (JVMS 4.7.31).
+    pub fn permits(&self) -> Option<&Items<Name>>
+        ensures { option_copied result ≡ self.now.permits }
+    {
+        self.permits.as_ref()
     }
 
     /// The constant pool.

@@ -1,41 +1,40 @@
 //! Code attributes (JVMS 4.7.3), with their StackMapTable attributes (JVMS 4.7.4).
 
-ghost use Rattle.std.specs.Prelude.{◌≡◌, ◌≤◌, [], length, drop, IfOk, Ok, None, true};
-ghost use Rattle.jl_reading.specs.Reading.{each_at, steps_at};
+ghost use Rattle.std.specs.Prelude.{◌≡◌, [], drop, Ok};
+ghost use Rattle.jl_reading.specs.Reading.{each_at};
 ghost use Rattle.jl_logic.specs.Answers.{Gives};
-ghost use Rattle.jl_class.specs.Faults.{told, cut_in};
-ghost use Rattle.jl_class.specs.Meaning.{names_frames};
+ghost use Rattle.jl_classfile.specs.Places.{Reads};
+ghost use Rattle.jl_class.specs.Faults.{told};
 ghost use Rattle.jl_class.specs.Reading as reading;
-ghost use Rattle.jl_class.specs.Reading.{attribute_at, frames_at};
 
-use crate::attribute::{content, head};
+use crate::attribute::{Site, named, one_at};
 use crate::fault::ClassFault;
 use crate::member::CodeBytes;
 use crate::source::Source;
+use jl_classfile::Place;
+use jl_optable::AttrForm;
 use jl_pool::Pool;
-use jl_prim::{Handler, Items};
+use jl_prim::{Handler, Items, Name};
 use std::alloc::Global;
 
-/// The code that the bytes from a place on have, all of them. `place` is that of the Code attribute.
+/// The code that the bytes from a place on have, all of them, in the attribute at another.
 #[tactic(auto, unfolding(crate::specs::Reading::code_at))]
 pub fn code_of(
     alloc: Global,
     pool: &Pool,
-    place: usize,
-    bytes: &[u8],
-    at: usize,
+    attribute: usize,
+    content: Place<'_>,
 ) -> Result<CodeBytes, ClassFault>
-    requires { at ≤ length bytes.now }
-    ensures { Gives told (λ c. c) result (reading.code_at pool.now place bytes.now at) }
+    ensures { Gives told (λ c. c) result (reading.code_at pool.now attribute content.entry.bytes.now content.entry.at) }
 {
-    let source = Source::Content(place);
-    let (max_stack, at) = source.u16_at(bytes, at)?;
-    let (max_locals, at) = source.u16_at(bytes, at)?;
-    let (code, at) = long_text_at(alloc, place, bytes, at)?;
-    let (handlers, at) = handlers_at(alloc, place, bytes, at)?;
-    let (frames, at) = inner_at(alloc, pool, place, bytes, at)?;
-    if at != bytes.len() {
-        return Err(ClassFault::Attribute(place));
+    let source = Source::Content(attribute);
+    let (max_stack, place) = source.u16(content)?;
+    let (max_locals, place) = source.u16(place)?;
+    let (code, place) = long_text_at(alloc, attribute, place)?;
+    let (handlers, place) = handlers_at(alloc, attribute, place)?;
+    let (frames, place) = inner_at(alloc, pool, attribute, place)?;
+    if !place.is_end() {
+        return Err(ClassFault::Attribute(attribute));
     }
     Ok(CodeBytes {
         max_stack,
@@ -48,18 +47,15 @@ pub fn code_of(
 
 /// The bytes whose length stands at a place.
 #[tactic(auto, unfolding(crate::specs::Reading::long_text_at))]
-fn long_text_at(
+fn long_text_at<'p>(
     alloc: Global,
-    place: usize,
-    bytes: &[u8],
-    at: usize,
-) -> Result<(Items<u8>, usize), ClassFault>
-    requires { at ≤ length bytes.now }
-    ensures exact { Gives told (λ x. x) result (reading.long_text_at place bytes.now at) }
-    ensures within { IfOk result (λ x. x.1 ≤ length bytes.now) }
+    attribute: usize,
+    place: Place<'p>,
+) -> Result<(Items<u8>, Place<'p>), ClassFault>
+    ensures { Reads told (λ x. x) place.entry result (reading.long_text_at attribute) }
 {
-    let (start, end) = content(Source::Content(place), bytes, at)?;
-    Ok((copied(alloc, &bytes[start..end])?, end))
+    let (text, next) = Source::Content(attribute).content(place)?;
+    Ok((copied(alloc, text.rest())?, next))
 }
 
 fn copied(alloc: Global, bytes: &[u8]) -> Result<Items<u8>, ClassFault>
@@ -70,35 +66,29 @@ fn copied(alloc: Global, bytes: &[u8]) -> Result<Items<u8>, ClassFault>
 
 /// The handlers whose count stands at a place.
 #[tactic(auto, unfolding(crate::specs::Reading::handlers_at))]
-fn handlers_at(
+fn handlers_at<'p>(
     alloc: Global,
-    place: usize,
-    bytes: &[u8],
-    at: usize,
-) -> Result<(Items<Handler>, usize), ClassFault>
-    requires { at ≤ length bytes.now }
-    ensures exact { Gives told (λ x. x) result (reading.handlers_at place bytes.now at) }
-    ensures within { IfOk result (λ x. x.1 ≤ length bytes.now) }
+    attribute: usize,
+    place: Place<'p>,
+) -> Result<(Items<Handler>, Place<'p>), ClassFault>
+    ensures { Reads told (λ x. x) place.entry result (reading.handlers_at attribute) }
 {
-    let (count, at) = Source::Content(place).u16_at(bytes, at)?;
-    each_handler(alloc, place, count, bytes, at)
+    let (count, place) = Source::Content(attribute).u16(place)?;
+    each_handler(alloc, attribute, count, place)
 }
 
-fn each_handler(
+fn each_handler<'p>(
     alloc: Global,
-    place: usize,
+    attribute: usize,
     count: u16,
-    bytes: &[u8],
-    at: usize,
-) -> Result<(Items<Handler>, usize), ClassFault>
-    requires { at ≤ length bytes.now }
-    ensures exact { Gives told (λ x. x) result (each_at (λ done. reading.handler_at place bytes.now) [] count at) }
-    ensures within { IfOk result (λ x. x.1 ≤ length bytes.now) }
+    place: Place<'p>,
+) -> Result<(Items<Handler>, Place<'p>), ClassFault>
+    ensures { Reads told (λ x. x) place.entry result (λ bytes. each_at (λ done. reading.handler_at attribute bytes) [] count) }
 {
     let mut done = Vec::new(alloc);
-    let mut next = at;
+    let mut next = place;
     for _ in 0..count {
-        let (handler, after) = handler_at(place, bytes, next)?;
+        let (handler, after) = handler_at(attribute, next)?;
         done.push(handler)?;
         next = after;
     }
@@ -107,93 +97,74 @@ fn each_handler(
 
 /// The handler at a place.
 #[tactic(auto, unfolding(crate::specs::Reading::handler_at))]
-fn handler_at(place: usize, bytes: &[u8], at: usize) -> Result<(Handler, usize), ClassFault>
-    requires { at ≤ length bytes.now }
-    ensures exact { Gives told (λ x. x) result (reading.handler_at place bytes.now at) }
-    ensures within { IfOk result (λ x. x.1 ≤ length bytes.now) }
+fn handler_at<'p>(attribute: usize, place: Place<'p>) -> Result<(Handler, Place<'p>), ClassFault>
+    ensures { Reads told (λ x. x) place.entry result (reading.handler_at attribute) }
 {
-    let source = Source::Content(place);
-    let (start, at) = source.u16_at(bytes, at)?;
-    let (end, at) = source.u16_at(bytes, at)?;
-    let (target, at) = source.u16_at(bytes, at)?;
-    let (catch_type, at) = source.u16_at(bytes, at)?;
+    let source = Source::Content(attribute);
+    let (start, place) = source.u16(place)?;
+    let (end, place) = source.u16(place)?;
+    let (target, place) = source.u16(place)?;
+    let (catch_type, place) = source.u16(place)?;
     let handler = Handler {
         start,
         end,
         target,
         catch_type,
     };
-    Ok((handler, at))
+    Ok((handler, place))
 }
 
 /// The frames among the attributes whose count stands at a place.
-#[tactic(auto, unfolding(crate::specs::Reading::inner_at))]
-fn inner_at(
+fn inner_at<'p>(
     alloc: Global,
     pool: &Pool,
-    place: usize,
-    bytes: &[u8],
-    at: usize,
-) -> Result<(Option<Items<u8>>, usize), ClassFault>
-    requires { at ≤ length bytes.now }
-    ensures exact { Gives told (λ x. x) result (reading.inner_at pool.now place bytes.now at) }
-    ensures within { IfOk result (λ x. x.1 ≤ length bytes.now) }
+    attribute: usize,
+    place: Place<'p>,
+) -> Result<(Option<Items<u8>>, Place<'p>), ClassFault>
+    ensures { Reads told (λ x. x) place.entry result (reading.inner_at pool.now attribute) }
 {
-    let (count, at) = Source::Content(place).u16_at(bytes, at)?;
-    each_attribute(alloc, pool, count, bytes, at)
+    one_at(alloc, Frames, Source::Content(attribute), pool, place)
 }
 
-fn each_attribute(
-    alloc: Global,
-    pool: &Pool,
-    count: u16,
-    bytes: &[u8],
-    at: usize,
-) -> Result<(Option<Items<u8>>, usize), ClassFault>
-    requires { at ≤ length bytes.now }
-    ensures exact { Gives told (λ x. x) result (steps_at (attribute_at cut_in names_frames true frames_at pool.now bytes.now) count None at) }
-    ensures within { IfOk result (λ x. x.1 ≤ length bytes.now) }
-{
-    let mut done = None;
-    let mut next = at;
-    for _ in 0..count {
-        let (read, after) = attribute(alloc, pool, bytes, done, next)?;
-        done = read;
-        next = after;
-    }
-    Ok((done, next))
-}
+/// The attributes of code.
+#[derive(Drop)]
+struct Frames;
 
-/// The attribute at a place, behind what was read so far.
-#[tactic(auto, unfolding(crate::specs::Reading::attribute_at, crate::specs::Reading::once_at))]
-fn attribute(
-    alloc: Global,
-    pool: &Pool,
-    bytes: &[u8],
-    done: Option<Items<u8>>,
-    at: usize,
-) -> Result<(Option<Items<u8>>, usize), ClassFault>
-    requires { at ≤ length bytes.now }
-    ensures exact { Gives told (λ x. x) result (attribute_at cut_in names_frames true frames_at pool.now bytes.now done at) }
-    ensures within { IfOk result (λ x. x.1 ≤ length bytes.now) }
-{
-    let source = Source::Content(at);
-    let (name, next) = head(source, pool, bytes, at)?;
-    if name.as_str() != "StackMapTable" {
-        let (_start, end) = content(source, bytes, next)?;
-        return Ok((done, end));
-    }
-    if done.is_some() {
-        return Err(ClassFault::Attribute(at));
-    }
-    let (start, end) = content(source, bytes, next)?;
-    let frames = frames_of(alloc, &bytes[..end], start)?;
-    Ok((Some(frames), end))
-}
+impl Site<Items<u8>> for Frames {
+    ghost use Rattle.std.specs.Prelude.{true};
+    ghost use Rattle.jl_optable.specs.declared.attributes.AttrForm.TheVariants as forms;
+    ghost use Rattle.jl_classfile.specs.Attributes.{alone, may_begin};
+    ghost use Rattle.jl_class.specs.Faults.{cut_in};
+    ghost use Rattle.jl_class.specs.Meaning.{names_frames};
+    ghost use Rattle.jl_class.specs.Reading.{frames_at};
 
-fn frames_of(alloc: Global, bytes: &[u8], at: usize) -> Result<Items<u8>, ClassFault>
-    requires { at ≤ length bytes.now }
-    ensures { Gives told (λ it. it) result (Ok (drop at bytes.now)) }
-{
-    copied(alloc, &bytes[at..])
+    ghost form_of = { λ site. alone names_frames forms.Frames };
+
+    ghost may_stand = { λ site. may_begin true };
+
+    ghost cut_at = { λ site. cut_in };
+
+    ghost means = { λ site form. frames_at };
+
+    fn form(&self, name: &Name) -> Option<AttrForm> {
+        named(name, AttrForm::Frames)
+    }
+
+    fn may(&self, done: &[Items<u8>], _form: AttrForm) -> bool {
+        done.is_empty()
+    }
+
+    fn cut(&self, attribute: usize, _at: usize) -> ClassFault {
+        ClassFault::Attribute(attribute)
+    }
+
+    fn meaning(
+        &self,
+        alloc: Global,
+        _form: AttrForm,
+        _attribute: usize,
+        content: Place<'_>,
+    ) -> Result<Items<u8>, ClassFault> {
+        copied(alloc, content.rest())
+    }
 }

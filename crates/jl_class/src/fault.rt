@@ -4,6 +4,7 @@ ghost use Rattle.std.specs.Prelude.{◌≡◌};
 ghost use Rattle.jl_class.specs.declared.fault.ClassFault.TheVariants.{NoMemory};
 ghost use Rattle.jl_class.specs.Faults.{of_pool};
 
+use jl_classfile::FileFault;
 use jl_pool::PoolFault;
 use jl_prim::{CopyEnd, Name, PushEnd};
 use jl_reading::Fault;
@@ -48,6 +49,22 @@ impl Fault for ClassFault {
 
     fn short(at: usize) -> ClassFault {
         ClassFault::Short(at)
+    }
+}
+
+impl FileFault for ClassFault {
+    ghost use Rattle.jl_class.specs.declared.fault.ClassFault.TheVariants as variants;
+
+    ghost magic = { variants.Magic };
+
+    ghost version = { variants.Version };
+
+    fn magic() -> ClassFault {
+        ClassFault::Magic
+    }
+
+    fn version(major: u16, minor: u16) -> ClassFault {
+        ClassFault::Version(major, minor)
     }
 }
 

@@ -1,59 +1,55 @@
 //! Fields (JVMS 4.5) and their constants (JVMS 4.7.2).
 
-ghost use Rattle.std.specs.Prelude.{◌≡◌, ◌≤◌, [], length, map, IfOk, None, false, true};
-ghost use Rattle.jl_reading.specs.Reading.{each_at, steps_at};
+ghost use Rattle.std.specs.Prelude.{◌≡◌, [], map, IfOk, false};
+ghost use Rattle.jl_reading.specs.Reading.{each_at};
 ghost use Rattle.jl_logic.specs.Answers.{Gives};
+ghost use Rattle.jl_classfile.specs.Places.{Reads};
 ghost use Rattle.jl_class.specs.Faults.{told};
 ghost use Rattle.jl_class.specs.Meaning as meaning;
-ghost use Rattle.jl_class.specs.Meaning.{field_key, is_member_among, names_constant_value};
+ghost use Rattle.jl_class.specs.Meaning.{field_key, is_member_among};
 ghost use Rattle.jl_class.specs.Reading as reading;
-ghost use Rattle.jl_class.specs.Reading.{attribute_at, in_file, constant_at};
+ghost use Rattle.jl_class.specs.Reading.{constant_at};
 
-use crate::attribute::{content, head};
+use crate::attribute::{Site, named, one_at};
 use crate::fault::ClassFault;
 use crate::flags::{are_field_flags, is_static};
 use crate::member::{FieldDecl, MemberKey};
 use crate::names::{field_desc_at, field_name_at};
 use crate::source::Source;
 use crate::table::Table;
+use jl_classfile::Place;
+use jl_optable::AttrForm;
 use jl_pool::Pool;
 use jl_prim::{Copied, Items, Name};
-use jl_reading::u16_at;
 use std::alloc::Global;
 
 /// The fields whose count stands at a place, and the place after them.
 #[tactic(auto, unfolding(crate::specs::Reading::fields_at))]
-pub fn fields_at(
+pub fn fields_at<'p>(
     alloc: Global,
     in_interface: bool,
     pool: &Pool,
-    bytes: &[u8],
-    at: usize,
-) -> Result<(Items<FieldDecl>, usize), ClassFault>
-    requires { at ≤ length bytes.now }
-    ensures exact { Gives told (λ x. x) result (reading.fields_at in_interface pool.now bytes.now at) }
-    ensures within { IfOk result (λ x. x.1 ≤ length bytes.now) }
+    place: Place<'p>,
+) -> Result<(Items<FieldDecl>, Place<'p>), ClassFault>
+    ensures { Reads told (λ x. x) place.entry result (reading.fields_at in_interface pool.now) }
 {
-    let (count, at) = u16_at::<ClassFault>(bytes, at)?;
-    each_field(alloc, in_interface, pool, count, bytes, at)
+    let (count, place) = place.u16::<ClassFault>()?;
+    each_field(alloc, in_interface, pool, count, place)
 }
 
-fn each_field(
+fn each_field<'p>(
     alloc: Global,
     in_interface: bool,
     pool: &Pool,
     count: u16,
-    bytes: &[u8],
-    at: usize,
-) -> Result<(Items<FieldDecl>, usize), ClassFault>
-    requires { at ≤ length bytes.now }
-    ensures exact { Gives told (λ x. x) result (each_at (reading.field_at in_interface pool.now bytes.now) [] count at) }
-    ensures within { IfOk result (λ x. x.1 ≤ length bytes.now) }
+    place: Place<'p>,
+) -> Result<(Items<FieldDecl>, Place<'p>), ClassFault>
+    ensures { Reads told (λ x. x) place.entry result (λ bytes. each_at (reading.field_at in_interface pool.now bytes) [] count) }
 {
     let mut done = Table::new(alloc);
-    let mut next = at;
+    let mut next = place;
     for _ in 0..count {
-        let (field, after) = field_at(alloc, in_interface, pool, bytes, &done, next)?;
+        let (field, after) = field_at(alloc, in_interface, pool, &done, next)?;
         done = done.with(field)?;
         next = after;
     }
@@ -62,22 +58,19 @@ fn each_field(
 
 /// The field at a place, behind those that were read so far.
 #[tactic(auto, unfolding(crate::specs::Reading::field_at))]
-fn field_at(
+fn field_at<'p>(
     alloc: Global,
     in_interface: bool,
     pool: &Pool,
-    bytes: &[u8],
     done: &Table<FieldDecl>,
-    at: usize,
-) -> Result<(FieldDecl, usize), ClassFault>
-    requires { at ≤ length bytes.now }
-    ensures exact { Gives told (λ x. x) result (reading.field_at in_interface pool.now bytes.now done.now at) }
+    place: Place<'p>,
+) -> Result<(FieldDecl, Place<'p>), ClassFault>
+    ensures exact { Reads told (λ x. x) place.entry result (λ bytes. reading.field_at in_interface pool.now bytes done.now) }
     ensures fresh { IfOk result (λ x. is_member_among (field_key x.0) (map field_key done.now) ≡ false) }
-    ensures within { IfOk result (λ x. x.1 ≤ length bytes.now) }
 {
-    let (flags, at) = flags_at(in_interface, bytes, at)?;
-    let (name, at) = field_name_at(pool, bytes, at)?;
-    let (desc, at) = field_desc_at(alloc, pool, bytes, at)?;
+    let (flags, place) = flags_at(in_interface, place)?;
+    let (name, place) = field_name_at(pool, place)?;
+    let (desc, place) = field_desc_at(alloc, pool, place)?;
     let key = MemberKey {
         name: name.copy()?,
         desc: desc.copy()?,
@@ -85,7 +78,7 @@ fn field_at(
     if done.keys().has(&key) {
         return Err(ClassFault::RepeatedMember(key.name));
     }
-    let (constant, next) = constants_at(flags, desc, pool, bytes, at)?;
+    let (constant, next) = constants_at(alloc, flags, desc, pool, place)?;
     let MemberKey { name, desc } = key;
     let field = FieldDecl {
         flags,
@@ -97,104 +90,100 @@ fn field_at(
 }
 
 #[tactic(auto, unfolding(crate::specs::Reading::flags_at))]
-fn flags_at(in_interface: bool, bytes: &[u8], at: usize) -> Result<(u16, usize), ClassFault>
-    requires { at ≤ length bytes.now }
-    ensures exact { Gives told (λ x. x) result (reading.flags_at (meaning.are_field_flags in_interface) bytes.now at) }
-    ensures within { IfOk result (λ x. x.1 ≤ length bytes.now) }
+fn flags_at<'p>(in_interface: bool, place: Place<'p>) -> Result<(u16, Place<'p>), ClassFault>
+    ensures { Reads told (λ x. x) place.entry result (reading.flags_at (meaning.are_field_flags in_interface)) }
 {
-    let (flags, next) = u16_at::<ClassFault>(bytes, at)?;
+    let (flags, next) = place.u16::<ClassFault>()?;
     if are_field_flags(in_interface, flags) {
         Ok((flags, next))
     } else {
-        Err(ClassFault::Flags(at))
+        Err(ClassFault::Flags(place.at))
     }
 }
 
 /// The constant among the attributes whose count stands at a place, for a field with these flags and this
 /// descriptor.
 #[tactic(auto, unfolding(crate::specs::Reading::constants_at))]
-fn constants_at(
+fn constants_at<'p>(
+    alloc: Global,
     flags: u16,
     desc: &Name,
     pool: &Pool,
-    bytes: &[u8],
-    at: usize,
-) -> Result<(Option<u16>, usize), ClassFault>
-    requires { at ≤ length bytes.now }
-    ensures exact { Gives told (λ x. x) result (reading.constants_at flags desc.now pool.now bytes.now at) }
-    ensures within { IfOk result (λ x. x.1 ≤ length bytes.now) }
+    place: Place<'p>,
+) -> Result<(Option<u16>, Place<'p>), ClassFault>
+    ensures { Reads told (λ x. x) place.entry result (reading.constants_at flags desc.now pool.now) }
 {
-    let (count, at) = u16_at::<ClassFault>(bytes, at)?;
-    each_attribute(flags, desc, pool, count, bytes, at)
+    one_at(
+        alloc,
+        Constants { flags, desc, pool },
+        Source::File,
+        pool,
+        place,
+    )
 }
 
-fn each_attribute(
+/// The attributes of a field with these flags and this descriptor.
+#[derive(Drop)]
+struct Constants<'a> {
     flags: u16,
-    desc: &Name,
-    pool: &Pool,
-    count: u16,
-    bytes: &[u8],
-    at: usize,
-) -> Result<(Option<u16>, usize), ClassFault>
-    requires { at ≤ length bytes.now }
-    ensures exact { Gives told (λ x. x) result (steps_at (attribute_at in_file names_constant_value true (constant_at flags desc.now pool.now) pool.now bytes.now) count None at) }
-    ensures within { IfOk result (λ x. x.1 ≤ length bytes.now) }
-{
-    let mut done = None;
-    let mut next = at;
-    for _ in 0..count {
-        let (read, after) = attribute(flags, desc, pool, bytes, done, next)?;
-        done = read;
-        next = after;
-    }
-    Ok((done, next))
+    desc: &'a Name,
+    pool: &'a Pool,
 }
 
-/// The attribute at a place, behind what was read so far.
-#[tactic(auto, unfolding(crate::specs::Reading::attribute_at, crate::specs::Reading::once_at))]
-fn attribute(
-    flags: u16,
-    desc: &Name,
-    pool: &Pool,
-    bytes: &[u8],
-    done: Option<u16>,
-    at: usize,
-) -> Result<(Option<u16>, usize), ClassFault>
-    requires { at ≤ length bytes.now }
-    ensures exact { Gives told (λ x. x) result (attribute_at in_file names_constant_value true (constant_at flags desc.now pool.now) pool.now bytes.now done at) }
-    ensures within { IfOk result (λ x. x.1 ≤ length bytes.now) }
-{
-    let (name, next) = head(Source::File, pool, bytes, at)?;
-    if name.as_str() != "ConstantValue" {
-        let (_start, end) = content(Source::File, bytes, next)?;
-        return Ok((done, end));
+impl Site<u16> for Constants<'_> {
+    ghost use Rattle.std.specs.Prelude.{true};
+    ghost use Rattle.jl_optable.specs.declared.attributes.AttrForm.TheVariants.{ConstantIndex};
+    ghost use Rattle.jl_classfile.specs.Attributes.{alone, may_begin};
+    ghost use Rattle.jl_class.specs.Meaning.{names_constant_value};
+    ghost use Rattle.jl_class.specs.Reading.{in_file, constant_at};
+
+    ghost form_of = { λ site. alone names_constant_value ConstantIndex };
+
+    ghost may_stand = { λ site. may_begin true };
+
+    ghost cut_at = { λ site. in_file };
+
+    ghost means = { λ site form. constant_at site.flags site.desc.now site.pool.now };
+
+    fn form(&self, name: &Name) -> Option<AttrForm> {
+        named(name, AttrForm::ConstantIndex)
     }
-    if done.is_some() {
-        return Err(ClassFault::Attribute(at));
+
+    fn may(&self, done: &[u16], _form: AttrForm) -> bool {
+        done.is_empty()
     }
-    let (start, end) = content(Source::File, bytes, next)?;
-    let constant = constant_of(flags, desc, pool, at, &bytes[..end], start)?;
-    Ok((Some(constant), end))
+
+    fn cut(&self, _attribute: usize, at: usize) -> ClassFault {
+        ClassFault::Short(at)
+    }
+
+    fn meaning(
+        &self,
+        _alloc: Global,
+        _form: AttrForm,
+        attribute: usize,
+        content: Place<'_>,
+    ) -> Result<u16, ClassFault> {
+        constant_of(self.flags, self.desc, self.pool, attribute, content)
+    }
 }
 
-/// The constant that the bytes from a place on have, all of them. `place` is that of the attribute.
+/// The constant that the bytes from a place on have, all of them, in the attribute at another.
 #[tactic(auto, unfolding(crate::specs::Reading::constant_at))]
 fn constant_of(
     flags: u16,
     desc: &Name,
     pool: &Pool,
-    place: usize,
-    bytes: &[u8],
-    at: usize,
+    attribute: usize,
+    content: Place<'_>,
 ) -> Result<u16, ClassFault>
-    requires { at ≤ length bytes.now }
-    ensures { Gives told (λ i. i) result (constant_at flags desc.now pool.now place bytes.now at) }
+    ensures { Gives told (λ i. i) result (constant_at flags desc.now pool.now attribute content.entry.bytes.now content.entry.at) }
 {
-    let (index, next) = Source::Content(place).u16_at(bytes, at)?;
-    if next == bytes.len() && sets_field(flags, desc, pool, index) {
+    let (index, next) = Source::Content(attribute).u16(content)?;
+    if next.is_end() && sets_field(flags, desc, pool, index) {
         Ok(index)
     } else {
-        Err(ClassFault::Attribute(place))
+        Err(ClassFault::Attribute(attribute))
     }
 }
 

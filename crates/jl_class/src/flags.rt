@@ -84,13 +84,15 @@ fn is_protected(flags: u16) -> bool
     AccessFlags::from_bits_retain(flags).contains(AccessFlags::PROTECTED)
 }
 
-fn is_final(flags: u16) -> bool
+/// Whether a class has no subclasses, or a method cannot be overridden.
+pub fn is_final(flags: u16) -> bool
     ensures { result ≡ meaning.is_final flags }
 {
     AccessFlags::from_bits_retain(flags).contains(AccessFlags::FINAL)
 }
 
-fn is_native(flags: u16) -> bool
+/// Whether a method is implemented outside of Java.
+pub fn is_native(flags: u16) -> bool
     ensures { result ≡ meaning.is_native flags }
 {
     AccessFlags::from_bits_retain(flags).contains(AccessFlags::NATIVE)

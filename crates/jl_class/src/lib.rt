@@ -11,15 +11,16 @@ mod front;
 mod member;
 mod method;
 mod names;
+mod nests;
 mod reading;
 mod source;
 mod table;
 
 pub use class::ClassDecl;
 pub use fault::ClassFault;
-pub use flags::{are_class_flags, are_field_flags, are_method_flags, has_code, is_interface};
+pub use flags::{
+    are_class_flags, are_field_flags, are_method_flags, has_code, is_abstract, is_final,
+    is_interface, is_native, is_static,
+};
 pub use member::{CodeBytes, FieldDecl, MemberKey, MethodDecl};
 pub use reading::read_class;
-
-#[cfg(test)]
-mod tests;

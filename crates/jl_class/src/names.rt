@@ -3,6 +3,7 @@
 ghost use Rattle.std.specs.Prelude.{◌≡◌, ◌≤◌, length, IfOk, Ok};
 ghost use Rattle.std.specs.Option.{option_copied};
 ghost use Rattle.jl_logic.specs.Answers.{Gives};
+ghost use Rattle.jl_classfile.specs.Places.{Reads};
 ghost use Rattle.jl_names.specs.Names.{names_a_field};
 ghost use Rattle.jl_class.specs.Faults.{told};
 ghost use Rattle.jl_class.specs.Meaning as meaning;
@@ -13,70 +14,61 @@ ghost use Rattle.jl_class.specs.Reading.{named_at};
 
 use crate::fault::ClassFault;
 use crate::flags::{is_abstract, is_interface, is_static};
+use jl_classfile::Place;
 use jl_names::{Descriptor, TextFault, descriptor, is_field_name, is_method_name};
 use jl_pool::Pool;
 use jl_prim::Name;
-use jl_reading::u16_at;
 use std::alloc::Global;
 
 /// The name of the class whose index stands at a place, and the place after it.
 #[tactic(auto, unfolding(crate::specs::Reading::named_at))]
-pub fn class_name_at<'a>(
+pub fn class_name_at<'a, 'p>(
     pool: &'a Pool,
-    bytes: &[u8],
-    at: usize,
-) -> Result<(&'a Name, usize), ClassFault>
-    requires { at ≤ length bytes.now }
-    ensures exact { Gives told (λ x. (x.0.now, x.1)) result (named_at (class_named pool.now) bytes.now at) }
-    ensures within { IfOk result (λ x. x.1 ≤ length bytes.now) }
+    place: Place<'p>,
+) -> Result<(&'a Name, Place<'p>), ClassFault>
+    ensures { Reads told (λ name. name.now) place.entry result (named_at (class_named pool.now)) }
 {
-    let (index, next) = u16_at::<ClassFault>(bytes, at)?;
+    let (index, next) = place.u16::<ClassFault>()?;
     match pool.class_name(index) {
         Some(name) => Ok((name, next)),
-        None => Err(ClassFault::Name(at)),
+        None => Err(ClassFault::Name(place.at)),
     }
 }
 
 /// The name of the superclass whose index stands at a place. Index 0 is for none.
 #[tactic(auto, unfolding(crate::specs::Reading::named_at))]
-fn super_name_at<'a>(
+fn super_name_at<'a, 'p>(
     pool: &'a Pool,
-    bytes: &[u8],
-    at: usize,
-) -> Result<(Option<&'a Name>, usize), ClassFault>
-    requires { at ≤ length bytes.now }
-    ensures exact { Gives told (λ x. (option_copied x.0, x.1)) result (named_at (super_named pool.now) bytes.now at) }
-    ensures within { IfOk result (λ x. x.1 ≤ length bytes.now) }
+    place: Place<'p>,
+) -> Result<(Option<&'a Name>, Place<'p>), ClassFault>
+    ensures { Reads told option_copied place.entry result (named_at (super_named pool.now)) }
 {
-    let (index, next) = u16_at::<ClassFault>(bytes, at)?;
+    let (index, next) = place.u16::<ClassFault>()?;
     if index == 0 {
         return Ok((None, next));
     }
     match pool.class_name(index) {
         Some(name) => Ok((Some(name), next)),
-        None => Err(ClassFault::Name(at)),
+        None => Err(ClassFault::Name(place.at)),
     }
 }
 
 /// Likewise, for a class with these flags and this name. Only `java/lang/Object` has none, and that of an
 /// interface is `java/lang/Object`.
 #[tactic(auto, unfolding(crate::specs::Reading::super_at))]
-pub fn super_at<'a>(
+pub fn super_at<'a, 'p>(
     flags: u16,
     name: &Name,
     pool: &'a Pool,
-    bytes: &[u8],
-    at: usize,
-) -> Result<(Option<&'a Name>, usize), ClassFault>
-    requires { at ≤ length bytes.now }
-    ensures exact { Gives told (λ x. (option_copied x.0, x.1)) result (reading.super_at flags name.now pool.now bytes.now at) }
-    ensures within { IfOk result (λ x. x.1 ≤ length bytes.now) }
+    place: Place<'p>,
+) -> Result<(Option<&'a Name>, Place<'p>), ClassFault>
+    ensures { Reads told option_copied place.entry result (reading.super_at flags name.now pool.now) }
 {
-    let (super_name, next) = super_name_at(pool, bytes, at)?;
+    let (super_name, next) = super_name_at(pool, place)?;
     if may_extend(flags, name, super_name) {
         Ok((super_name, next))
     } else {
-        Err(ClassFault::Name(at))
+        Err(ClassFault::Name(place.at))
     }
 }
 
@@ -97,38 +89,32 @@ fn is_object(name: &Name) -> bool
 
 /// The name of a field whose index stands at a place, and the place after it.
 #[tactic(auto, unfolding(crate::specs::Reading::named_at))]
-pub fn field_name_at<'a>(
+pub fn field_name_at<'a, 'p>(
     pool: &'a Pool,
-    bytes: &[u8],
-    at: usize,
-) -> Result<(&'a Name, usize), ClassFault>
-    requires { at ≤ length bytes.now }
-    ensures exact { Gives told (λ x. (x.0.now, x.1)) result (named_at (text_that names_a_field pool.now) bytes.now at) }
-    ensures within { IfOk result (λ x. x.1 ≤ length bytes.now) }
+    place: Place<'p>,
+) -> Result<(&'a Name, Place<'p>), ClassFault>
+    ensures { Reads told (λ name. name.now) place.entry result (named_at (text_that names_a_field pool.now)) }
 {
-    let (index, next) = u16_at::<ClassFault>(bytes, at)?;
+    let (index, next) = place.u16::<ClassFault>()?;
     match pool.paired_text(index) {
         Some(name) if is_field_name(name.as_bytes()) => Ok((name, next)),
-        _ => Err(ClassFault::Name(at)),
+        _ => Err(ClassFault::Name(place.at)),
     }
 }
 
 /// The name of a method with these flags whose index stands at a place, and the place after it.
 #[tactic(auto, unfolding(crate::specs::Reading::named_at))]
-pub fn method_name_at<'a>(
+pub fn method_name_at<'a, 'p>(
     flags: u16,
     pool: &'a Pool,
-    bytes: &[u8],
-    at: usize,
-) -> Result<(&'a Name, usize), ClassFault>
-    requires { at ≤ length bytes.now }
-    ensures exact { Gives told (λ x. (x.0.now, x.1)) result (named_at (text_that (names_method_with flags) pool.now) bytes.now at) }
-    ensures within { IfOk result (λ x. x.1 ≤ length bytes.now) }
+    place: Place<'p>,
+) -> Result<(&'a Name, Place<'p>), ClassFault>
+    ensures { Reads told (λ name. name.now) place.entry result (named_at (text_that (names_method_with flags) pool.now)) }
 {
-    let (index, next) = u16_at::<ClassFault>(bytes, at)?;
+    let (index, next) = place.u16::<ClassFault>()?;
     match pool.paired_text(index) {
         Some(name) if names_method(flags, name) => Ok((name, next)),
-        _ => Err(ClassFault::Name(at)),
+        _ => Err(ClassFault::Name(place.at)),
     }
 }
 
@@ -155,53 +141,47 @@ fn is_clinit(name: &Name) -> bool
 
 /// The descriptor of a field whose index stands at a place, and the place after it.
 #[tactic(auto, unfolding(crate::specs::Reading::named_at))]
-pub fn field_desc_at<'a>(
+pub fn field_desc_at<'a, 'p>(
     alloc: Global,
     pool: &'a Pool,
-    bytes: &[u8],
-    at: usize,
-) -> Result<(&'a Name, usize), ClassFault>
-    requires { at ≤ length bytes.now }
-    ensures exact { Gives told (λ x. (x.0.now, x.1)) result (named_at (text_that meaning.describes_a_field pool.now) bytes.now at) }
-    ensures within { IfOk result (λ x. x.1 ≤ length bytes.now) }
+    place: Place<'p>,
+) -> Result<(&'a Name, Place<'p>), ClassFault>
+    ensures { Reads told (λ name. name.now) place.entry result (named_at (text_that meaning.describes_a_field pool.now)) }
 {
-    let (index, next) = u16_at::<ClassFault>(bytes, at)?;
+    let (index, next) = place.u16::<ClassFault>()?;
     let Some(desc) = pool.paired_text(index) else {
-        return Err(ClassFault::Name(at));
+        return Err(ClassFault::Name(place.at));
     };
     if describes_a_field(alloc, desc)? {
         Ok((desc, next))
     } else {
-        Err(ClassFault::Name(at))
+        Err(ClassFault::Name(place.at))
     }
 }
 
 /// The descriptor of a method with this name whose index stands at a place, and the place after it.
 #[tactic(auto, unfolding(crate::specs::Reading::named_at))]
-pub fn method_desc_at<'a>(
+pub fn method_desc_at<'a, 'p>(
     alloc: Global,
     name: &Name,
     pool: &'a Pool,
-    bytes: &[u8],
-    at: usize,
-) -> Result<(&'a Name, usize), ClassFault>
-    requires { at ≤ length bytes.now }
-    ensures exact { Gives told (λ x. (x.0.now, x.1)) result (named_at (text_that (meaning.describes_method_with name.now) pool.now) bytes.now at) }
-    ensures within { IfOk result (λ x. x.1 ≤ length bytes.now) }
+    place: Place<'p>,
+) -> Result<(&'a Name, Place<'p>), ClassFault>
+    ensures { Reads told (λ name. name.now) place.entry result (named_at (text_that (meaning.describes_method_with name.now) pool.now)) }
 {
-    let (index, next) = u16_at::<ClassFault>(bytes, at)?;
+    let (index, next) = place.u16::<ClassFault>()?;
     let Some(desc) = pool.paired_text(index) else {
-        return Err(ClassFault::Name(at));
+        return Err(ClassFault::Name(place.at));
     };
     if describes_method(alloc, name, desc)? {
         Ok((desc, next))
     } else {
-        Err(ClassFault::Name(at))
+        Err(ClassFault::Name(place.at))
     }
 }
 
 /// Whether a text spells the type of a field.
-fn describes_a_field(alloc: Global, text: &Name) -> Result<bool, ClassFault>
+pub fn describes_a_field(alloc: Global, text: &Name) -> Result<bool, ClassFault>
     ensures { Gives told (λ b. b) result (Ok (meaning.describes_a_field text.now)) }
 {
     match descriptor(alloc, text.as_bytes()) {

@@ -9,7 +9,6 @@ ghost use Rattle.jl_class.specs.Faults.{told};
 ghost use Rattle.jl_class.specs.Reading.{class_of};
 ghost use Rattle.jl_class.specs.Spelling.{IsClass};
 
-use crate::attribute::pass_attributes;
 use crate::class::ClassDecl;
 use crate::fault::ClassFault;
 use crate::field::fields_at;
@@ -17,6 +16,8 @@ use crate::flags::is_interface;
 use crate::front::{class_flags_at, class_pool, front, interfaces_at};
 use crate::method::methods_at;
 use crate::names::{class_name_at, super_at};
+use crate::nests::nests_at;
+use jl_classfile::Place;
 use jl_prim::{Copied, CopyEnd, Name};
 use std::alloc::Global;
 
@@ -37,22 +38,22 @@ pub fn read_class(alloc: Global, bytes: &[u8]) -> Result<ClassDecl, ClassFault>
 fn class(alloc: Global, bytes: &[u8]) -> Result<ClassDecl, ClassFault>
     ensures { Gives told (λ c. c) result (class_of bytes.now) }
 {
-    let (version, at) = front(bytes)?;
-    let (pool, at) = class_pool(alloc, bytes, at)?;
-    let (flags, at) = class_flags_at(bytes, at)?;
-    let (name, at) = class_name_at(&pool, bytes, at)?;
-    let (super_name, at) = super_at(flags, name, &pool, bytes, at)?;
-    let (interfaces, at) = interfaces_at(alloc, &pool, bytes, at)?;
-    let (fields, at) = fields_at(alloc, is_interface(flags), &pool, bytes, at)?;
-    let (methods, at) = methods_at(alloc, &pool, bytes, at)?;
-    let at = pass_attributes(&pool, bytes, at)?;
-    if at != bytes.len() {
+    let (version, place) = front(Place::start(bytes))?;
+    let (pool, place) = class_pool(alloc, place)?;
+    let (flags, place) = class_flags_at(place)?;
+    let (name, place) = class_name_at(&pool, place)?;
+    let (super_name, place) = super_at(flags, name, &pool, place)?;
+    let (interfaces, place) = interfaces_at(alloc, &pool, place)?;
+    let (fields, place) = fields_at(alloc, is_interface(flags), &pool, place)?;
+    let (methods, place) = methods_at(alloc, &pool, place)?;
+    let (nests, place) = nests_at(alloc, version.0, flags, &pool, place)?;
+    if !place.is_end() {
         return Err(ClassFault::Trailing);
     }
     let name = name.copy()?;
     let super_name = copied(super_name)?;
     Ok(ClassDecl::from_parts(
-        version, flags, name, super_name, interfaces, fields, methods, pool,
+        version, flags, name, super_name, interfaces, fields, methods, nests, pool,
     ))
 }
 

@@ -1,11 +1,12 @@
 //! Numbers in a file and inside an attribute.
 
-ghost use Rattle.std.specs.Prelude.{◌≡◌, ◌≤◌, length};
+ghost use Rattle.std.specs.Prelude.{◌≡◌};
 ghost use Rattle.jl_reading.specs.Reading.{number_at};
-ghost use Rattle.jl_class.specs.Faults.{cut};
+ghost use Rattle.jl_classfile.specs.Places.{Reads, content_at, inside};
+ghost use Rattle.jl_class.specs.Faults.{cut, told};
 
 use crate::fault::ClassFault;
-use jl_reading::{u16_at, u32_at};
+use jl_classfile::Place;
 
 /// What is read, which decides the fault of what is not whole.
 #[derive(Clone, Copy, Debug, PartialEq, Eq)]
@@ -27,25 +28,27 @@ impl Source {
         }
     }
 
-    /// The number in two bytes from a place on, and the place after it.
-    pub fn u16_at(self, bytes: &[u8], at: usize) -> Result<(u16, usize), ClassFault>
-        requires { at ≤ length bytes.now }
-        ensures { result ≡ number_at (cut self) 2 bytes.now at }
+    /// The number in two bytes, and the place after it.
+    pub fn u16(self, place: Place<'_>) -> Result<(u16, Place<'_>), ClassFault>
+        ensures { Reads told (λ n. n) place.entry result (number_at (cut self) 2) }
     {
-        match u16_at::<ClassFault>(bytes, at) {
-            Ok(read) => Ok(read),
-            Err(_) => Err(self.cut(at)),
+        match place.next_u16() {
+            Some(read) => Ok(read),
+            None => Err(self.cut(place.at)),
         }
     }
 
-    /// The number in four bytes from a place on, and the place after it.
-    pub fn u32_at(self, bytes: &[u8], at: usize) -> Result<(u32, usize), ClassFault>
-        requires { at ≤ length bytes.now }
-        ensures { result ≡ number_at (cut self) 4 bytes.now at }
+    /// The content whose length stands at a place, and the place after it.
+    #[tactic(auto, unfolding(jl_classfile::specs::Places::content_at))]
+    pub fn content(self, place: Place<'_>) -> Result<(Place<'_>, Place<'_>), ClassFault>
+        ensures { Reads told inside place.entry result (content_at (cut self)) }
     {
-        match u32_at::<ClassFault>(bytes, at) {
-            Ok(read) => Ok(read),
-            Err(_) => Err(self.cut(at)),
+        let Some((count, start)) = place.next_u32() else {
+            return Err(self.cut(place.at));
+        };
+        match start.next_content(count as usize) {
+            Some(read) => Ok(read),
+            None => Err(self.cut(start.at)),
         }
     }
 }

@@ -4,7 +4,7 @@ use Rattle.std.specs.Prelude.{⊤}
 use Rattle.std.specs.List.{flat_map, AllByRecursion}
 use Rattle.std.specs.Option.{option_and_then}
 use Rattle.std.proofs.lemmas.Bool.{ltb-false, le-ltb}
-use Rattle.std.proofs.lemmas.List.{append-nil, length-take-le}
+use Rattle.std.proofs.lemmas.List.{append-nil, length-take-le, drop-take}
 use Rattle.jl_reading.specs.Reading.{Stands, IsBytes, number_at, two, four, counted, steps_at}
 use Rattle.jl_reading.proofs.Stands.{Stands-taken, Stands-nothing, IsBytes-take}
 use Rattle.jl_reading.proofs.Steps.{bind_ok, guard_ok, else_ok, ok_is, bind_to}
@@ -70,6 +70,14 @@ pub held_any : (bytes : List ℕ) (at : ℕ) (x : (List ℕ × ℕ) × ℕ) → 
 held_any bytes at x w =
     let s = Stands-taken bytes x.0.1 w.len (omega (arith, w.end, w.within)) in
     (take w.len (drop x.0.1 bytes), held_of bytes at x (take w.len (drop x.0.1 bytes)) w (ends_at x.1 (sym w.end) s))
+
+-- the bytes of a window
+pub held_window : (bytes : List ℕ) (at : ℕ) (x : (List ℕ × ℕ) × ℕ) → Window bytes at x → Held bytes at x.1 (drop x.0.1 x.0.0)
+held_window bytes at x w =
+    let s = Stands-taken bytes x.0.1 w.len (omega (arith, w.end, w.within)) in
+    let held = held_of bytes at x (take w.len (drop x.0.1 bytes)) w (ends_at x.1 (sym w.end) s) in
+    let text : take w.len (drop x.0.1 bytes) ≡ drop x.0.1 x.0.0 = sym (ap (λ (t : List ℕ). drop x.0.1 t) (w.inside ∙ ap (λ (n : ℕ). take n bytes) w.end) ∙ drop-take x.0.1 w.len bytes) in
+    subst (λ (t : List ℕ). Held bytes at x.1 t) text held
 
 -- ---- the forms of attributes
 

@@ -228,3 +228,16 @@ at_most_once N once (c ∷ cs) (Some v) None a b = absurd cc
 at_most_once N once cs (Some v) (Some w) a b =
     let same : a.0 ≡ b.0 = cc in
     ap (λ x. Some x) (once b.0 v w (subst (λ c. N c v) same a.2) b.2)
+
+-- one more value
+pub first_that_push : {V W : Type 0} (pick : V → Option W) (vs : List V) (v : V) → first_that pick (vs ++ v ∷ []) ≡ or_else (first_that pick vs) (pick v)
+first_that_push pick [] v = or_nothing (pick v)
+  where
+    or_nothing : {W : Type 0} (o : Option W) → or_else o None ≡ o
+    or_nothing None = refl
+    or_nothing (Some w) = refl
+first_that_push pick (x ∷ xs) v = or_other (pick x) (first_that pick (xs ++ v ∷ [])) (first_that pick xs) (pick v) (first_that_push pick xs v)
+  where
+    or_other : {W : Type 0} (o all one last : Option W) → all ≡ or_else one last → or_else o all ≡ or_else (or_else o one) last
+    or_other None all one last e = e
+    or_other (Some w) all one last e = refl

@@ -1,19 +1,23 @@
+use Rattle.std.proofs.Common.{◌∙◌}
 use Rattle.std.proofs.lemmas.Result.{err_from_is_err_and}
-use Rattle.jl_reading.proofs.Each.{each_more, each_ends, each_done}
+use Rattle.jl_reading.proofs.Each.{each_done}
+use Rattle.jl_classfile.proofs.Loops.{unit_more, unit_ends}
 use Rattle.jl_class.specs.Reading.{handler_at}
 use Rattle.jl_class.specs.Faults.{told}
 use Rattle.jl_class.proofs.code.each_handler.Goals as goal
 
-pub returns-in_err-handler-clause-exact : goal.returns-in_err-handler-clause-exact
-returns-in_err-handler-clause-exact c =
+pub returns-in_err-handler : goal.returns-in_err-handler
+returns-in_err-handler c =
     let p = err_from_is_err_and c.from_residual.result c.from_residual.ensures.1 in
-    rw (p.1, p.2) (each_ends told c.in_err-handler.field-0.0 (λ done. handler_at c.args.place c.args.bytes.now) c.loop.done.items c.args.count c.loop.counter c.loop.next _ c.loop-test.true c.in_err-handler.ensures.exact c.loop.invariant.reads)
+    rw (p.1, p.2) (unit_ends told c.in_err-handler.field-0.0 (λ bytes done. handler_at c.args.attribute bytes) c.args.place.bytes.now c.loop.next.bytes.now c.loop.done.items c.args.count c.loop.counter c.loop.next.at _
+    c.loop.invariant.bytes c.loop-test.true c.in_err-handler.ensures c.loop.invariant.reads)
 
 pub loop-preserved : goal.loop-preserved
 loop-preserved c = record {
-  within = c.in_ok-handler.ensures.within;
-  reads = rw c.in_ok-push.ensures.items (each_more (λ done. handler_at c.args.place c.args.bytes.now) c.loop.done.items c.args.count c.loop.counter c.loop.next c.in_ok-handler.handler c.in_ok-handler.after _ c.loop-test.true c.in_ok-handler.ensures.exact c.loop.invariant.reads);
+  bytes = c.in_ok-handler.ensures.0 ∙ c.loop.invariant.bytes;
+  reads = rw c.in_ok-push.ensures.items (unit_more (λ bytes done. handler_at c.args.attribute bytes) c.args.place.bytes.now c.loop.next.bytes.now c.loop.done.items c.args.count c.loop.counter c.loop.next.at c.in_ok-handler.handler c.in_ok-handler.after.at _
+      c.loop.invariant.bytes c.loop-test.true c.in_ok-handler.ensures.1 c.loop.invariant.reads);
 }
 
-pub returns-clause-exact : goal.returns-clause-exact
-returns-clause-exact c = rw c.from_vec.ensures (each_done (λ done. handler_at c.args.place c.args.bytes.now) c.loop.done.items c.args.count c.loop.counter c.loop.next _ c.loop-test.false c.loop.invariant.reads)
+pub returns : goal.returns
+returns c = (c.loop.invariant.bytes, rw c.from_vec.ensures (each_done (λ done. handler_at c.args.attribute c.args.place.bytes.now) c.loop.done.items c.args.count c.loop.counter c.loop.next.at _ c.loop-test.false c.loop.invariant.reads))
