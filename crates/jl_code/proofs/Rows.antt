@@ -1,5 +1,5 @@
 -- Worked rows of the definitions.
-use Rattle.std.proofs.Common.{◌≡◌, ℕ, arith, inl, List, Result, [], ◌∷◌, Ok, Err, Some, None, true, false, refl}
+use Rattle.std.proofs.Common.{◌≡◌, ℕ, arith, inl, Bool, List, Result, [], ◌∷◌, Ok, Err, Some, None, true, false, refl}
 use Rattle.std.specs.Prelude.{pos, negsuc}
 use lib.Utf8.{encode}
 use Rattle.jl_reading.specs.Reading.{each_at}
@@ -14,7 +14,7 @@ use Rattle.jl_names.specs.Text.{plain, has_no_lone_surrogate}
 use Rattle.jl_code.specs.declared.code.Arg.{Arg}
 use Rattle.jl_code.specs.declared.code.Instr.{Instr}
 use Rattle.jl_code.specs.Spelling.{InstrStands, IsCode}
-use Rattle.jl_code.specs.Sound.{PlacesRise, names_entry, has_shape}
+use Rattle.jl_code.specs.Sound.{PlacesRise, names_entry, has_shape, may_be_wide}
 use Rattle.jl_code.specs.PlaceTables.{index_in}
 use Rattle.jl_code.specs.Locals.{local_of}
 use Rattle.jl_code.specs.declared.fault.CodeFault.{CodeFault}
@@ -227,9 +227,33 @@ an_array_is_named : (names_entry some_pool ops.NEW kinds.Index2 (args.Index 8) �
 unfolding is_right_index brackets plain encode
 an_array_is_named = (refl, refl)
 
--- a branch has a place, ldc2_w a long or an index, and no instruction the opcode of wide
-shapes : (has_shape ops.GOTO kinds.Target2 (args.Target 3) ≡ true) × (has_shape ops.GOTO kinds.Target2 (args.Index 3) ≡ false) × (has_shape ops.LDC2_W kinds.Index2 (args.Long (pos 5)) ≡ true) × (has_shape ops.NEW kinds.Index2 (args.Long (pos 5)) ≡ false) × (has_shape ops.WIDE kinds.Wide args.Nothing ≡ false)
-shapes = (refl, refl, refl, refl, refl)
+-- operands in the form that the opcode asks for
+abbrev fits : ℕ → Arg → Bool
+fits op arg = has_shape op (operands_of op) arg
+
+operands_that_fit : (fits ops.NOP args.Nothing ≡ true) × (fits ops.NEWARRAY (args.Number (pos 10)) ≡ true) × (fits ops.SIPUSH (args.Number (negsuc 0)) ≡ true) × (fits ops.ALOAD (args.Local 7) ≡ true) × (fits ops.LDC (args.Index 2) ≡ true)
+    × (fits ops.GETFIELD (args.Index 2) ≡ true) × (fits ops.INVOKEINTERFACE (args.Index 6) ≡ true) × (fits ops.MULTIANEWARRAY (args.Multi 8 2) ≡ true) × (fits ops.IINC (args.Inc 1 (pos 1)) ≡ true)
+    × (fits ops.IFNULL (args.Target 0) ≡ true) × (fits ops.GOTO_W (args.Target 0) ≡ true) × (fits ops.TABLESWITCH (args.Switch 0 []) ≡ true) × (fits ops.LOOKUPSWITCH (args.Switch 0 []) ≡ true)
+unfolding operands_of
+operands_that_fit = (refl, refl, refl, refl, refl, refl, refl, refl, refl, refl, refl, refl, refl)
+
+-- the opcode of wide is no instruction's
+operands_that_do_not : (fits ops.NOP (args.Number (pos 0)) ≡ false) × (fits ops.ILOAD args.Nothing ≡ false) × (fits ops.IINC (args.Local 1) ≡ false) × (fits ops.MULTIANEWARRAY (args.Index 8) ≡ false) × (fits ops.GOTO (args.Index 3) ≡ false) × (fits ops.WIDE args.Nothing ≡ false)
+unfolding operands_of
+operands_that_do_not = (refl, refl, refl, refl, refl, refl)
+
+-- of ldc2_w there is the long, of ldc_w the index
+constants_that_fit : (fits ops.LDC2_W (args.Long (pos 5)) ≡ true) × (fits ops.LDC2_W (args.Index 9) ≡ false) × (fits ops.LDC_W (args.Index 2) ≡ true) × (fits ops.LDC_W (args.Long (pos 5)) ≡ false) × (fits ops.LDC (args.Long (pos 5)) ≡ false)
+unfolding operands_of
+constants_that_fit = (refl, refl, refl, refl, refl)
+
+-- the first and the last load and store, and iinc, and not those beside them
+abbrev widens : ℕ → Bool
+widens op = may_be_wide (record { at = 0; op = op; wide = true; arg = args.Local 300 })
+
+widened : (widens ops.ILOAD ≡ true) × (widens ops.ALOAD ≡ true) × (widens ops.ISTORE ≡ true) × (widens ops.ASTORE ≡ true) × (widens ops.IINC ≡ true)
+    × (widens ops.LDC2_W ≡ false) × (widens ops.ILOAD_0 ≡ false) × (widens ops.SALOAD ≡ false) × (widens ops.ISTORE_0 ≡ false) × (widens ops.I2L ≡ false) × (widens ops.WIDE ≡ false)
+widened = (refl, refl, refl, refl, refl, refl, refl, refl, refl, refl, refl)
 
 -- the second instruction begins at 2
 two_places : (index_in (Some 0 ∷ None ∷ Some 1 ∷ []) 2 ≡ Some 1) × (index_in (Some 0 ∷ None ∷ Some 1 ∷ []) 1 ≡ None) × (index_in (Some 0 ∷ None ∷ Some 1 ∷ []) 3 ≡ None)

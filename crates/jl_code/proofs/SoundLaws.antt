@@ -1,22 +1,24 @@
 -- What is spelled as code and makes no stub is sound.
-use Rattle.std.proofs.Common.{◌≡◌, ℕ, ◌+◌, ◌≤◌, ◌<◌, inl, inr, Bool, true, false, not, leb, eqb, ℤ, List, [], ◌∷◌, length, Option, None, Some, refl, sym, ap, subst, arith}
+use Rattle.std.proofs.Common.{◌≡◌, ℕ, ◌+◌, ◌≤◌, ◌<◌, inl, inr, Bool, true, false, not, leb, eqb, ℤ, List, [], ◌∷◌, length, Option, None, Some, refl, sym, ap, subst, ◌∙◌, arith}
 use Rattle.std.specs.Prelude.{IsTrue, ◌&&◌, slice_get, ◌||◌, ◌⊎◌}
 use Rattle.std.specs.Option.{option_map}
-use Rattle.std.specs.List.{list_all, AllByRecursion}
-use Rattle.std.proofs.lemmas.Bool.{cond_both, and_from, and_parts, or_cases, not_from_false, le-leb, lt-leb, leb-true, eqb-true, or_left, or_right, ne_eqb}
+use Rattle.std.specs.List.{list_all, list_any, AllByRecursion}
+use Rattle.std.proofs.lemmas.Bool.{cond_both, and_from, and_parts, or_cases, or_parts, not_from_false, not-true, le-leb, lt-leb, leb-true, eqb-true, or_left, or_right, ne_eqb}
 use Rattle.jl_prim.specs.declared.declaration.Handler.{Handler}
 use Rattle.jl_pool.specs.declared.entry.Entry.{Entry}
 use Rattle.jl_optable.specs.declared.form.Operands.{Operands}
 use Rattle.jl_optable.specs.declared.form.Operands.TheVariants as kinds
-use Rattle.jl_optable.specs.Rows.{has_row, operands_of}
+use Rattle.jl_pool.specs.declared.entry.Entry.TheVariants as entries
+use Rattle.jl_pool.specs.Pool.{long_value, long_of, some_tag}
+use Rattle.jl_optable.specs.Rows.{has_row, operands_of, form_of}
 use Rattle.jl_code.specs.declared.code.Arg.{Arg}
 use Rattle.jl_code.specs.declared.code.Arg.TheVariants as args
 use Rattle.jl_code.specs.declared.code.Instr.{Instr}
 use Rattle.jl_code.specs.declared.code.Code.{Code}
 use Rattle.jl_code.specs.declared.code.Code.TheVariants as codes
-use Rattle.jl_code.specs.References.{is_right_index, is_slot_count, member_type, described, has_float}
-use Rattle.jl_code.specs.Instructions.{long_or_index, names_local}
-use Rattle.jl_code.specs.Stubs.{makes_stub}
+use Rattle.jl_code.specs.References.{has_tag, is_right_index, is_slot_count, member_type, described, has_float}
+use Rattle.jl_code.specs.Instructions.{long_or_index, index_arg, names_local}
+use Rattle.jl_code.specs.Stubs.{is_stub_constant, arg_makes_stub, row_makes_stub, makes_stub}
 use Rattle.jl_code.specs.Decoding.{first_where, stub_or, kind_of}
 use Rattle.jl_code.specs.Spelling.{ArgStands, WideArgStands, InstrStands, StandInstrs, IsCode}
 use Rattle.jl_code.specs.Sound.{starts, PlacesRise, names_entry, has_shape, may_be_wide, AreSound, IsSound}
@@ -126,32 +128,58 @@ named pool code (i ∷ is) at end stand =
 
 -- ---- the form of operands
 
-long_shaped_1 : (op i : ℕ) (o : Option ℤ) → eqb op 20 ≡ true → has_shape op kinds.Index1 (long_or_index i o) ≡ true
-long_shaped_1 op i None h = refl
-long_shaped_1 op i (Some v) h = h
+-- a constant that is named makes a stub
+abbrev stub_of : Option Entry → Arg → Bool
+stub_of o (args.Index i) = is_stub_constant (some_tag o)
+stub_of o _ = false
 
-long_shaped_2 : (op i : ℕ) (o : Option ℤ) → eqb op 20 ≡ true → has_shape op kinds.Index2 (long_or_index i o) ≡ true
-long_shaped_2 op i None h = refl
-long_shaped_2 op i (Some v) h = h
+-- what ldc2_w takes and makes no stub is a long
+long_shaped : (n : ℕ) (o : Option Entry) → list_any (λ tag. has_tag tag (some_tag o)) (5 ∷ 6 ∷ 17 ∷ []) ≡ true → stub_of o (long_or_index n (long_value o)) ≡ false → has_shape 20 kinds.Index2 (long_or_index n (long_value o)) ≡ true
+long_shaped n None right runs = absurd cc
+long_shaped n (Some (entries.Long v)) right runs = refl
+long_shaped n (Some _) right runs = absurd cc
 
-arg_shaped : (pool : List Entry) (code : List ℕ) (at op : ℕ) (kind : Operands) (next : ℕ) (arg : Arg) (end : ℕ) → is_wide_kind kind ≡ false → ArgStands pool code at op kind next arg end → has_shape op kind arg ≡ true
-arg_shaped pool code at op kinds.Nothing next arg end narrow s = rw s.0 refl
-arg_shaped pool code at op kinds.Byte next arg end narrow s = rw s.meaning refl
-arg_shaped pool code at op kinds.Short next arg end narrow s = rw s.meaning refl
-arg_shaped pool code at op kinds.Local next arg end narrow s = rw s.meaning refl
-arg_shaped pool code at op kinds.Index1 next arg end narrow s =
-    rw s.meaning (cond_both (eqb op 20) (long_or_index s.n _) (args.Index s.n) (λ a. has_shape op kinds.Index1 a ≡ true) (λ h. long_shaped_1 op s.n _ h) (λ h. refl))
-arg_shaped pool code at op kinds.Index2 next arg end narrow s =
-    rw s.meaning (cond_both (eqb op 20) (long_or_index s.n _) (args.Index s.n) (λ a. has_shape op kinds.Index2 a ≡ true) (λ h. long_shaped_2 op s.n _ h) (λ h. refl))
-arg_shaped pool code at op kinds.Inc next arg end narrow s = rw s.meaning refl
-arg_shaped pool code at op kinds.Target2 next arg end narrow s = rw s.meaning refl
-arg_shaped pool code at op kinds.Target4 next arg end narrow s = rw s.meaning refl
-arg_shaped pool code at op kinds.Table next arg end narrow s = rw s.meaning refl
-arg_shaped pool code at op kinds.Lookup next arg end narrow s = rw s.meaning refl
-arg_shaped pool code at op kinds.Interface next arg end narrow s = rw s.meaning refl
-arg_shaped pool code at op kinds.Dynamic next arg end narrow s = rw s.meaning refl
-arg_shaped pool code at op kinds.Multi next arg end narrow s = rw s.meaning refl
-arg_shaped pool code at op kinds.Wide next arg end narrow s = absurd cc
+long_stub : (pool : List Entry) (n : ℕ) (o : Option ℤ) → arg_makes_stub pool 20 (long_or_index n o) ≡ stub_of (slice_get pool n) (long_or_index n o)
+long_stub pool n None = refl
+long_stub pool n (Some v) = refl
+
+wide_constant : (pool : List Entry) (n : ℕ) → IsTrue (is_right_index pool 20 n) → arg_makes_stub pool 20 (long_or_index n (long_of pool n)) ≡ false → has_shape 20 kinds.Index2 (long_or_index n (long_of pool n)) ≡ true
+unfolding is_right_index
+wide_constant pool n right runs = long_shaped n (slice_get pool n) right (sym (long_stub pool n (long_of pool n)) ∙ runs)
+
+shaped_2 : (pool : List Entry) (op n : ℕ) → IsTrue (is_right_index pool op n) → arg_makes_stub pool op (index_arg pool op n) ≡ false → has_shape op kinds.Index2 (index_arg pool op n) ≡ true
+shaped_2 pool op n right runs0 =
+    cond_both (eqb op 20) (long_or_index n (long_of pool n)) (args.Index n) (λ a. arg_makes_stub pool op a ≡ false → has_shape op kinds.Index2 a ≡ true)
+    (λ h runs. subst (λ (k : ℕ). IsTrue (is_right_index pool k n) → arg_makes_stub pool k (long_or_index n (long_of pool n)) ≡ false → has_shape k kinds.Index2 (long_or_index n (long_of pool n)) ≡ true) (sym (eqb-true op 20 h)) (wide_constant pool n) right runs)
+    (λ h runs. ap not h) runs0
+
+not_20 : (op : ℕ) → operands_of op ≡ kinds.Index1 → (eqb op 20) ≡ true → ⊥
+unfolding operands_of
+not_20 op kind h = let e : operands_of 20 ≡ kinds.Index1 = subst (λ (k : ℕ). operands_of k ≡ kinds.Index1) (eqb-true op 20 h) kind in absurd cc
+
+shaped_1 : (pool : List Entry) (op n : ℕ) → operands_of op ≡ kinds.Index1 → has_shape op kinds.Index1 (index_arg pool op n) ≡ true
+shaped_1 pool op n kind =
+    cond_both (eqb op 20) (long_or_index n (long_of pool n)) (args.Index n) (λ a. has_shape op kinds.Index1 a ≡ true) (λ h. absurd (not_20 op kind h)) (λ h. refl)
+
+not_wide : (op : ℕ) → operands_of op ≡ kinds.Wide → (eqb op 196) ≡ false → ⊥
+not_wide op kind h = let e : is_wide_kind kinds.Wide ≡ false = subst (λ (k : Operands). is_wide_kind k ≡ false) kind (narrow_kind op h) in absurd cc
+
+arg_shaped : (pool : List Entry) (code : List ℕ) (at op : ℕ) (kind : Operands) (next : ℕ) (arg : Arg) (end : ℕ) → operands_of op ≡ kind → (eqb op 196) ≡ false → arg_makes_stub pool op arg ≡ false → ArgStands pool code at op kind next arg end → has_shape op kind arg ≡ true
+arg_shaped pool code at op kinds.Nothing next arg end k w runs s = rw s.0 refl
+arg_shaped pool code at op kinds.Byte next arg end k w runs s = rw s.meaning refl
+arg_shaped pool code at op kinds.Short next arg end k w runs s = rw s.meaning refl
+arg_shaped pool code at op kinds.Local next arg end k w runs s = rw s.meaning refl
+arg_shaped pool code at op kinds.Index1 next arg end k w runs s = rw s.meaning (shaped_1 pool op s.n k)
+arg_shaped pool code at op kinds.Index2 next arg end k w runs s = rw s.meaning (shaped_2 pool op s.n s.rule (subst (λ (a : Arg). arg_makes_stub pool op a ≡ false) s.meaning runs))
+arg_shaped pool code at op kinds.Inc next arg end k w runs s = rw s.meaning refl
+arg_shaped pool code at op kinds.Target2 next arg end k w runs s = rw s.meaning refl
+arg_shaped pool code at op kinds.Target4 next arg end k w runs s = rw s.meaning refl
+arg_shaped pool code at op kinds.Table next arg end k w runs s = rw s.meaning refl
+arg_shaped pool code at op kinds.Lookup next arg end k w runs s = rw s.meaning refl
+arg_shaped pool code at op kinds.Interface next arg end k w runs s = rw s.meaning refl
+arg_shaped pool code at op kinds.Dynamic next arg end k w runs s = rw s.meaning refl
+arg_shaped pool code at op kinds.Multi next arg end k w runs s = rw s.meaning refl
+arg_shaped pool code at op kinds.Wide next arg end k w runs s = absurd (not_wide op k w)
 
 inc_kind : (op : ℕ) → op ≡ 132 → operands_of op ≡ kinds.Inc
 unfolding operands_of
@@ -176,14 +204,19 @@ wide_shaped : (code : List ℕ) (op next : ℕ) (arg : Arg) (end : ℕ) → Wide
 wide_shaped code op next arg end (inl s) = rw (inc_kind op (eqb-true op 132 s.0), s.1.meaning) refl
 wide_shaped code op next arg end (inr s) = rw (local_kind op (and_parts (not (eqb op 132)) (names_local op) s.0).1, s.1.meaning) refl
 
-instr_shaped : (pool : List Entry) (code : List ℕ) (at : ℕ) (i : Instr) (end : ℕ) → InstrStands pool code at i end → has_shape i.op (operands_of i.op) i.arg ≡ true
-instr_shaped pool code at i end (inl s) = arg_shaped pool code at i.op (operands_of i.op) (at + 1) i.arg end (narrow_kind i.op s.narrow) s.operands
-instr_shaped pool code at i end (inr s) = wide_shaped code i.op (at + 1 + 1) i.arg end s.operands
+arg_runs : (pool : List Entry) (i : Instr) → makes_stub pool i ≡ false → arg_makes_stub pool i.op i.arg ≡ false
+unfolding makes_stub
+arg_runs pool i e = (or_parts (row_makes_stub (form_of i.op)) (arg_makes_stub pool i.op i.arg) e).1
 
-shaped : (pool : List Entry) (code : List ℕ) (is : List Instr) (at end : ℕ) → StandInstrs pool code at is end → IsTrue (list_all (λ i. has_shape i.op (operands_of i.op) i.arg) is)
-shaped pool code [] at end stand = refl
-shaped pool code (i ∷ is) at end stand =
-    and_from (has_shape i.op (operands_of i.op) i.arg) (list_all (λ i. has_shape i.op (operands_of i.op) i.arg) is) (instr_shaped pool code at i stand.0 stand.1) (shaped pool code is stand.0 end stand.2)
+instr_shaped : (pool : List Entry) (code : List ℕ) (at : ℕ) (i : Instr) (end : ℕ) → InstrStands pool code at i end → makes_stub pool i ≡ false → has_shape i.op (operands_of i.op) i.arg ≡ true
+instr_shaped pool code at i end (inl s) runs = arg_shaped pool code at i.op (operands_of i.op) (at + 1) i.arg end refl s.narrow (arg_runs pool i runs) s.operands
+instr_shaped pool code at i end (inr s) runs = wide_shaped code i.op (at + 1 + 1) i.arg end s.operands
+
+shaped : (pool : List Entry) (code : List ℕ) (is : List Instr) (at end : ℕ) → StandInstrs pool code at is end → IsTrue (list_all (λ i. not (makes_stub pool i)) is) → IsTrue (list_all (λ i. has_shape i.op (operands_of i.op) i.arg) is)
+shaped pool code [] at end stand runs = refl
+shaped pool code (i ∷ is) at end stand runs =
+    let r = and_parts (not (makes_stub pool i)) (list_all (λ i. not (makes_stub pool i)) is) runs in
+    and_from (has_shape i.op (operands_of i.op) i.arg) (list_all (λ i. has_shape i.op (operands_of i.op) i.arg) is) (instr_shaped pool code at i stand.0 stand.1 (not-true (makes_stub pool i) r.0)) (shaped pool code is stand.0 end stand.2 r.1)
 
 widens : (code : List ℕ) (op next : ℕ) (arg : Arg) (end : ℕ) → WideArgStands code op next arg end → (eqb op 132 || names_local op) ≡ true
 widens code op next arg end (inl s) = or_left (eqb op 132) (names_local op) s.0
@@ -235,7 +268,7 @@ instrs_sound pool desc code handlers is s =
       rise = rising pool code s.instrs 0 (length code) s.stand;
       inside = inside pool code s.instrs 0 (length code) s.stand;
       rows = rows pool code s.instrs 0 (length code) s.stand;
-      shaped = shaped pool code s.instrs 0 (length code) s.stand;
+      shaped = shaped pool code s.instrs 0 (length code) s.stand r.runs;
       widened = widened pool code s.instrs 0 (length code) s.stand;
       lead = s.lead;
       handled = s.handled;

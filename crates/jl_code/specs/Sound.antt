@@ -35,15 +35,14 @@ names_entry pool op kind (args.Index i) = is_right_index pool op i
 names_entry pool op kind (args.Multi i count) = is_array_of pool i count
 names_entry pool op kind _ = true
 
--- An operand has the form that the row says. In place of an index of ldc2_w stands the long.
+-- An operand has the form that the row says. That of ldc2_w is the long itself, in place of its index.
 abbrev pub has_shape : ℕ → Operands → Arg → Bool
 has_shape op kinds.Nothing args.Nothing = true
 has_shape op kinds.Byte (args.Number n) = true
 has_shape op kinds.Short (args.Number n) = true
 has_shape op kinds.Local (args.Local n) = true
 has_shape op kinds.Index1 (args.Index i) = true
-has_shape op kinds.Index1 (args.Long value) = op == ops.LDC2_W
-has_shape op kinds.Index2 (args.Index i) = true
+has_shape op kinds.Index2 (args.Index i) = not (op == ops.LDC2_W)
 has_shape op kinds.Index2 (args.Long value) = op == ops.LDC2_W
 has_shape op kinds.Inc (args.Inc n more) = true
 has_shape op kinds.Target2 (args.Target place) = true
@@ -59,7 +58,7 @@ has_shape op _ _ = false
 abbrev pub may_be_wide : Instr → Bool
 may_be_wide i = not i.wide || ((i.op == ops.IINC) || names_local i.op)
 
--- The first stands at 0, and the others behind it in order, inside the code. Branches and handlers lead to instructions.
+-- The first stands at 0, and the others behind it in order, inside the code. Operands have the form that their opcode asks for. Branches and handlers lead to instructions.
 pub record AreSound (pool : List Entry) (desc code : List ℕ) (handlers : List Handler) (instrs : List Instr) : Type 0 where
   pub first : slice_get (starts instrs) 0 ≡ Some 0
   pub rise : PlacesRise instrs

@@ -23,4 +23,4 @@ pub use decoding::decode;
 pub use fault::CodeFault;
 pub use locals::local_of;
 pub use members::{class_text, member_class, member_desc, member_name, member_tag};
-pub use place_table::PlaceTable;
+pub use place_table::{PlaceTable, TableEnd};

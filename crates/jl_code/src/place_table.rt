@@ -5,10 +5,26 @@ ghost use Rattle.std.specs.List.{AllByRecursion};
 ghost use Rattle.jl_code.specs.Sound.{starts};
 ghost use Rattle.jl_code.specs.PlaceTables.{IsIndexOf, index_in};
 ghost use Rattle.jl_code.specs.declared.code.Instr.{Instr};
+ghost use Rattle.jl_code.specs.declared.place_table.TableEnd.TheVariants.{NoMemory};
 
 use crate::code::Instr;
 use std::alloc::{AllocError, Global};
 use std::marker::Model;
+
+/// Why a table was not made.
+#[derive(Clone, Copy, Debug, PartialEq, Eq)]
+pub enum TableEnd {
+    /// There was no memory for the table.
+    NoMemory,
+}
+
+impl From<AllocError> for TableEnd {
+    ghost from_gives = { λ _ e. e ≡ NoMemory };
+
+    fn from(_e: AllocError) -> TableEnd {
+        TableEnd::NoMemory
+    }
+}
 
 /// For each place of a method's code the index of the instruction that stands there, where one does. Contracts see
 /// it as the list of these.
@@ -26,8 +42,8 @@ impl Model for PlaceTable {
 }
 
 impl PlaceTable {
-    /// The table of instructions that stand in a code of so many bytes.
-    pub fn of(alloc: Global, instructions: &[Instr], len: usize) -> Result<PlaceTable, AllocError>
+    /// The table of instructions that stand in a code of so many bytes. `NoMemory` where there is no memory for it.
+    pub fn of(alloc: Global, instructions: &[Instr], len: usize) -> Result<PlaceTable, TableEnd>
         requires { AllByRecursion (λ (i : Instr). i.at < len) instructions.now }
         ensures { IfOk result (λ table. (pc : ℕ) → IsIndexOf (starts instructions.now) pc (index_in table pc)) }
     {
