@@ -1,7 +1,7 @@
 //! Writing the tables of a Module attribute (JVMS 4.7.25).
 
 ghost use Rattle.std.specs.Prelude.{◌≡◌, ◌<◌, ◌++◌, length, OnOk, IsOkUnless};
-ghost use Rattle.std.specs.List.{flat_map};
+ghost use Rattle.std.specs.List.{flat_map, AllByRecursion};
 ghost use Rattle.jl_reading.specs.Reading.{two};
 ghost use Rattle.jl_pool.specs.Builder.{index_in};
 ghost use Rattle.jl_modinfo.specs.Writing.{targets};
@@ -10,6 +10,56 @@ ghost use Rattle.jl_modinfo.specs.Layout.{counted_by, module_bytes, class_bytes,
 use crate::fault::InfoWriteFault;
 use jl_pool::{Constant, PoolBuilder, push_u16};
 use jl_prim::{Copied, Grant, Name, Provides, Requires};
+
+/// What writes the entries of one kind of tables.
+trait RowWriter<T>: Sized {
+    ghost use Rattle.std.specs.Prelude.{◌≡◌, ℕ, List, ◌++◌, OnOk, IsOkUnless};
+    ghost use Rattle.jl_pool.specs.declared.constant.Constant.{Constant};
+
+    /// The bytes of an entry, by the constants of the pool.
+    ghost written: { List Constant → T → List ℕ };
+
+    /// The lists of an entry are short enough.
+    ghost fits: { T → Type 0 };
+
+    /// Writes an entry behind other bytes.
+    fn push(&self, bytes: &mut Vec<u8>, pool: &PoolBuilder, row: &T) -> Result<(), InfoWriteFault>
+        requires { fits row.now }
+        ensures bytes { OnOk result (bytes.new.items ≡ bytes.old.items ++ written pool.now row.now) }
+        ensures memory { IsOkUnless result InfoWriteFault.NoMemory };
+}
+
+/// Writes a table, its count first.
+fn push_rows<T, W: RowWriter<T>>(
+    writer: &W,
+    bytes: &mut Vec<u8>,
+    pool: &PoolBuilder,
+    rows: &[T],
+) -> Result<(), InfoWriteFault>
+    requires few { length rows.now < 65536 }
+    requires each { AllByRecursion W.fits rows.now }
+    ensures bytes { OnOk result (bytes.new.items ≡ bytes.old.items ++ counted_by (W.written pool.now) rows.now) }
+    ensures memory { IsOkUnless result InfoWriteFault.NoMemory }
+{
+    push_count(bytes, rows.len())?;
+    push_each(writer, bytes, pool, rows)
+}
+
+fn push_each<T, W: RowWriter<T>>(
+    writer: &W,
+    bytes: &mut Vec<u8>,
+    pool: &PoolBuilder,
+    rows: &[T],
+) -> Result<(), InfoWriteFault>
+    requires { AllByRecursion W.fits rows.now }
+    ensures bytes { OnOk result (bytes.new.items ≡ bytes.old.items ++ flat_map (W.written pool.now) rows.now) }
+    ensures memory { IsOkUnless result InfoWriteFault.NoMemory }
+{
+    for row in rows {
+        writer.push(bytes, pool, row)?;
+    }
+    Ok(())
+}
 
 /// Writes the count of a table behind other bytes.
 pub fn push_count(bytes: &mut Vec<u8>, count: usize) -> Result<(), InfoWriteFault>
@@ -63,48 +113,6 @@ fn push_package(bytes: &mut Vec<u8>, pool: &PoolBuilder, name: &Name) -> Result<
     push_index(bytes, pool, Constant::Package(name.copy()?))
 }
 
-fn push_each_module(
-    bytes: &mut Vec<u8>,
-    pool: &PoolBuilder,
-    names: &[Name],
-) -> Result<(), InfoWriteFault>
-    ensures bytes { OnOk result (bytes.new.items ≡ bytes.old.items ++ flat_map (module_bytes pool.now) names.now) }
-    ensures memory { IsOkUnless result InfoWriteFault.NoMemory }
-{
-    for name in names {
-        push_module(bytes, pool, name)?;
-    }
-    Ok(())
-}
-
-fn push_each_class(
-    bytes: &mut Vec<u8>,
-    pool: &PoolBuilder,
-    names: &[Name],
-) -> Result<(), InfoWriteFault>
-    ensures bytes { OnOk result (bytes.new.items ≡ bytes.old.items ++ flat_map (class_bytes pool.now) names.now) }
-    ensures memory { IsOkUnless result InfoWriteFault.NoMemory }
-{
-    for name in names {
-        push_class(bytes, pool, name)?;
-    }
-    Ok(())
-}
-
-fn push_each_package(
-    bytes: &mut Vec<u8>,
-    pool: &PoolBuilder,
-    names: &[Name],
-) -> Result<(), InfoWriteFault>
-    ensures bytes { OnOk result (bytes.new.items ≡ bytes.old.items ++ flat_map (package_bytes pool.now) names.now) }
-    ensures memory { IsOkUnless result InfoWriteFault.NoMemory }
-{
-    for name in names {
-        push_package(bytes, pool, name)?;
-    }
-    Ok(())
-}
-
 /// Writes a list of classes with its count.
 pub fn push_classes(
     bytes: &mut Vec<u8>,
@@ -115,8 +123,7 @@ pub fn push_classes(
     ensures bytes { OnOk result (bytes.new.items ≡ bytes.old.items ++ counted_by (class_bytes pool.now) names.now) }
     ensures memory { IsOkUnless result InfoWriteFault.NoMemory }
 {
-    push_count(bytes, names.len())?;
-    push_each_class(bytes, pool, names)
+    push_rows(&Classes, bytes, pool, names)
 }
 
 /// Writes a list of packages with its count.
@@ -129,8 +136,7 @@ pub fn push_packages(
     ensures bytes { OnOk result (bytes.new.items ≡ bytes.old.items ++ counted_by (package_bytes pool.now) names.now) }
     ensures memory { IsOkUnless result InfoWriteFault.NoMemory }
 {
-    push_count(bytes, names.len())?;
-    push_each_package(bytes, pool, names)
+    push_rows(&Packages, bytes, pool, names)
 }
 
 fn push_targets(
@@ -142,8 +148,7 @@ fn push_targets(
     ensures bytes { OnOk result (bytes.new.items ≡ bytes.old.items ++ counted_by (module_bytes pool.now) names.now) }
     ensures memory { IsOkUnless result InfoWriteFault.NoMemory }
 {
-    push_count(bytes, names.len())?;
-    push_each_module(bytes, pool, names)
+    push_rows(&Modules, bytes, pool, names)
 }
 
 fn requires_bits(entry: &Requires) -> u16
@@ -168,20 +173,6 @@ fn push_requires(
     Ok(())
 }
 
-fn push_each_requires(
-    bytes: &mut Vec<u8>,
-    pool: &PoolBuilder,
-    required: &[Requires],
-) -> Result<(), InfoWriteFault>
-    ensures bytes { OnOk result (bytes.new.items ≡ bytes.old.items ++ flat_map (requires_written pool.now) required.now) }
-    ensures memory { IsOkUnless result InfoWriteFault.NoMemory }
-{
-    for entry in required {
-        push_requires(bytes, pool, entry)?;
-    }
-    Ok(())
-}
-
 /// Writes the requires table.
 pub fn push_required(
     bytes: &mut Vec<u8>,
@@ -192,8 +183,7 @@ pub fn push_required(
     ensures bytes { OnOk result (bytes.new.items ≡ bytes.old.items ++ counted_by (requires_written pool.now) required.now) }
     ensures memory { IsOkUnless result InfoWriteFault.NoMemory }
 {
-    push_count(bytes, required.len())?;
-    push_each_requires(bytes, pool, required)
+    push_rows(&Requirements, bytes, pool, required)
 }
 
 fn push_to(bytes: &mut Vec<u8>, pool: &PoolBuilder, grant: &Grant) -> Result<(), InfoWriteFault>
@@ -217,21 +207,6 @@ fn push_grant(bytes: &mut Vec<u8>, pool: &PoolBuilder, grant: &Grant) -> Result<
     push_to(bytes, pool, grant)
 }
 
-fn push_each_grant(
-    bytes: &mut Vec<u8>,
-    pool: &PoolBuilder,
-    grants: &[Grant],
-) -> Result<(), InfoWriteFault>
-    requires { AreTargetsFew grants.now }
-    ensures bytes { OnOk result (bytes.new.items ≡ bytes.old.items ++ flat_map (grant_written pool.now) grants.now) }
-    ensures memory { IsOkUnless result InfoWriteFault.NoMemory }
-{
-    for grant in grants {
-        push_grant(bytes, pool, grant)?;
-    }
-    Ok(())
-}
-
 /// Writes the table of exports or of opens.
 pub fn push_grants(
     bytes: &mut Vec<u8>,
@@ -243,8 +218,7 @@ pub fn push_grants(
     ensures bytes { OnOk result (bytes.new.items ≡ bytes.old.items ++ counted_by (grant_written pool.now) grants.now) }
     ensures memory { IsOkUnless result InfoWriteFault.NoMemory }
 {
-    push_count(bytes, grants.len())?;
-    push_each_grant(bytes, pool, grants)
+    push_rows(&Grants, bytes, pool, grants)
 }
 
 fn push_service(
@@ -260,21 +234,6 @@ fn push_service(
     push_classes(bytes, pool, service.implementations.as_slice())
 }
 
-fn push_each_service(
-    bytes: &mut Vec<u8>,
-    pool: &PoolBuilder,
-    provides: &[Provides],
-) -> Result<(), InfoWriteFault>
-    requires { AreClassesFew provides.now }
-    ensures bytes { OnOk result (bytes.new.items ≡ bytes.old.items ++ flat_map (provides_written pool.now) provides.now) }
-    ensures memory { IsOkUnless result InfoWriteFault.NoMemory }
-{
-    for service in provides {
-        push_service(bytes, pool, service)?;
-    }
-    Ok(())
-}
-
 /// Writes the provides table.
 pub fn push_services(
     bytes: &mut Vec<u8>,
@@ -286,6 +245,138 @@ pub fn push_services(
     ensures bytes { OnOk result (bytes.new.items ≡ bytes.old.items ++ counted_by (provides_written pool.now) provides.now) }
     ensures memory { IsOkUnless result InfoWriteFault.NoMemory }
 {
-    push_count(bytes, provides.len())?;
-    push_each_service(bytes, pool, provides)
+    push_rows(&Services, bytes, pool, provides)
+}
+
+/// Names of modules.
+#[derive(Clone, Copy)]
+struct Modules;
+
+impl RowWriter<Name> for Modules {
+    ghost use Rattle.std.specs.Prelude.{⊤};
+    ghost use Rattle.jl_modinfo.specs.Layout.{module_bytes};
+
+    ghost written = { module_bytes };
+
+    ghost fits = { λ name. ⊤ };
+
+    fn push(
+        &self,
+        bytes: &mut Vec<u8>,
+        pool: &PoolBuilder,
+        row: &Name,
+    ) -> Result<(), InfoWriteFault> {
+        push_module(bytes, pool, row)
+    }
+}
+
+/// Names of classes.
+#[derive(Clone, Copy)]
+struct Classes;
+
+impl RowWriter<Name> for Classes {
+    ghost use Rattle.std.specs.Prelude.{⊤};
+    ghost use Rattle.jl_modinfo.specs.Layout.{class_bytes};
+
+    ghost written = { class_bytes };
+
+    ghost fits = { λ name. ⊤ };
+
+    fn push(
+        &self,
+        bytes: &mut Vec<u8>,
+        pool: &PoolBuilder,
+        row: &Name,
+    ) -> Result<(), InfoWriteFault> {
+        push_class(bytes, pool, row)
+    }
+}
+
+/// Names of packages.
+#[derive(Clone, Copy)]
+struct Packages;
+
+impl RowWriter<Name> for Packages {
+    ghost use Rattle.std.specs.Prelude.{⊤};
+    ghost use Rattle.jl_modinfo.specs.Layout.{package_bytes};
+
+    ghost written = { package_bytes };
+
+    ghost fits = { λ name. ⊤ };
+
+    fn push(
+        &self,
+        bytes: &mut Vec<u8>,
+        pool: &PoolBuilder,
+        row: &Name,
+    ) -> Result<(), InfoWriteFault> {
+        push_package(bytes, pool, row)
+    }
+}
+
+/// What a module requires.
+#[derive(Clone, Copy)]
+struct Requirements;
+
+impl RowWriter<Requires> for Requirements {
+    ghost use Rattle.std.specs.Prelude.{⊤};
+    ghost use Rattle.jl_modinfo.specs.Layout.{requires_written};
+
+    ghost written = { requires_written };
+
+    ghost fits = { λ entry. ⊤ };
+
+    fn push(
+        &self,
+        bytes: &mut Vec<u8>,
+        pool: &PoolBuilder,
+        row: &Requires,
+    ) -> Result<(), InfoWriteFault> {
+        push_requires(bytes, pool, row)
+    }
+}
+
+/// What a module exports or opens.
+#[derive(Clone, Copy)]
+struct Grants;
+
+impl RowWriter<Grant> for Grants {
+    ghost use Rattle.std.specs.Prelude.{◌<◌, length};
+    ghost use Rattle.jl_modinfo.specs.Layout.{grant_written};
+    ghost use Rattle.jl_modinfo.specs.Writing.{targets};
+
+    ghost written = { grant_written };
+
+    ghost fits = { λ grant. length (targets grant) < 65536 };
+
+    fn push(
+        &self,
+        bytes: &mut Vec<u8>,
+        pool: &PoolBuilder,
+        row: &Grant,
+    ) -> Result<(), InfoWriteFault> {
+        push_grant(bytes, pool, row)
+    }
+}
+
+/// What a module provides.
+#[derive(Clone, Copy)]
+struct Services;
+
+impl RowWriter<Provides> for Services {
+    ghost use Rattle.std.specs.Prelude.{◌<◌, length};
+    ghost use Rattle.jl_modinfo.specs.Layout.{provides_written};
+
+    ghost written = { provides_written };
+
+    ghost fits = { λ service. length service.implementations < 65536 };
+
+    fn push(
+        &self,
+        bytes: &mut Vec<u8>,
+        pool: &PoolBuilder,
+        row: &Provides,
+    ) -> Result<(), InfoWriteFault> {
+        push_service(bytes, pool, row)
+    }
 }

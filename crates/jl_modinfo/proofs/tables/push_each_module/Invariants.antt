@@ -1,7 +1,0 @@
-use Rattle.std.proofs.Common.{◌≡◌, ◌++◌, take}
-use Rattle.std.specs.List.{flat_map}
-use Rattle.jl_modinfo.specs.Layout.{module_bytes}
-use Rattle.jl_modinfo.proofs.tables.push_each_module.Given as goal
-
-abbrev pub invariant-loop-name : goal.invariant-loop-name
-invariant-loop-name l = l.bytes.items ≡ l.initial.bytes.items ++ flat_map (module_bytes l.pool) (take l.name-index l.names)
