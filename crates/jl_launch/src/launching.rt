@@ -100,8 +100,10 @@ pub fn launch<T: Tree, S: Sink>(
     // A fault of the tree or the sink ends the launch as itself, and no call follows it.
     ensures tree_exact { IsTrue T.counts_exactly → T.faults tree.new ≡ tree_faults result (T.faults tree.old) }
     ensures sink_exact { IsTrue S.counts_exactly → S.faults out.new ≡ sink_faults result (S.faults out.old) }
-    ensures unwritten { result ≡ LaunchEnd.ReadFault → out.new ≡ out.old }
-    ensures no_memory { result ≡ LaunchEnd.NoMemory → out.new ≡ out.old }
+    // A resolution writes nothing before all files are read, and refused words take memory before their line is written.
+    ensures unwritten { (a : Wanted) → words_of (map string_bytes words.now) ≡ Ok a → result ≡ LaunchEnd.ReadFault → out.new ≡ out.old }
+    ensures no_memory { (a : Wanted) → words_of (map string_bytes words.now) ≡ Ok a → result ≡ LaunchEnd.NoMemory → out.new ≡ out.old }
+    ensures no_memory_for_words { (f : Refused) → words_of (map string_bytes words.now) ≡ Err f → result ≡ LaunchEnd.NoMemory → out.new ≡ out.old }
     // The declaration files of the places of modules are asked for, each once for an element, in their order.
     ensures asks { (files : List File) (a : Wanted) → T.files tree.old ≡ Some files → words_of (map string_bytes words.now) ≡ Ok a → AsksUpTo (T.asked tree.old) (flat_map (places_of files) a.elements) (T.asked tree.new) }
     // Where nothing failed, the end and the whole text are what is launched, or memory ended and a front of the text was written.
