@@ -23,6 +23,3 @@ pub use constants::may_have;
 pub use entry::{Constant, NewEntry};
 pub use fault::WriteFault;
 pub use writing::write_class;
-
-#[cfg(test)]
-mod tests;
