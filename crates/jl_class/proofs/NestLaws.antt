@@ -1,15 +1,17 @@
 -- The attributes of a class: what is read stands there, and what stands there is read (JVMS 4.7.28 to 4.7.31).
-use Rattle.std.proofs.Common.{◌≡◌, ℕ, ◌≤◌, List, [], ◌∷◌, ◌++◌, length, Bool, true, false, not, cond, Option, None, Some, Ok, Err, refl, sym, ap, ◌∙◌, subst, append_assoc}
+use Rattle.std.proofs.Common.{◌≡◌, ℕ, ◌≤◌, List, [], ◌∷◌, ◌++◌, length, Bool, true, false, not, cond, leb, Option, None, Some, Ok, Err, refl, sym, ap, ◌∙◌, subst, append_assoc}
 use Rattle.std.specs.Prelude.{⊤, is_some, ◌&&◌, option_map}
 use Rattle.std.specs.List.{AllByRecursion, list_any}
 use Rattle.std.proofs.lemmas.Bool.{and_parts, or_parts}
 use Rattle.std.proofs.lemmas.List.{append-nil}
+use Rattle.jl_logic.specs.Order.{is_text}
 use Rattle.jl_reading.specs.Reading.{Stands, IsBytes, number_at, counted}
 use Rattle.jl_reading.proofs.Steps.{bind_ok, ok_is, bind_to}
 use Rattle.jl_optable.specs.declared.attributes.AttrForm.{AttrForm}
 use Rattle.jl_optable.specs.declared.attributes.AttrForm.TheVariants as forms
 use Rattle.jl_optable.specs.declared.attributes.Site.TheVariants as sites
-use Rattle.jl_optable.specs.Attributes.{attribute_form, first_row, is_for}
+use Rattle.jl_optable.specs.Attributes.{attribute_form, first_row, is_for, name_of}
+use Rattle.std.specs.Cmp.Lexicographic.{bytes_decides}
 use Rattle.jl_pool.specs.declared.entry.Entry.{Entry}
 use Rattle.jl_pool.specs.Pool.{text_of}
 use Rattle.jl_classfile.specs.Attributes.{attributes_at, first_that, or_else}
@@ -505,3 +507,34 @@ nests_again major flags pool bytes at next all n p are s =
     let permits = at_most_once (AreClasses pool) classes_once _ (first_that permits_in read.0) n.permits (slot_found (ClassMeans pool) may (is_form forms.Permits) permits_in (AreClasses pool) (permits_slot flags pool) form pool all read.0 read.1) p.permits in
     let same : nests_of read.0 ≡ n = same_nests (nests_of read.0) n host (ap or_nothing members ∙ sym p.members_are) permits in
     bind_to _ t.0 (bind_to _ t.1 (ap (λ k. Ok (k, next)) same))
+
+-- ---- the names of forms
+
+row_named : (major from : ℕ) (form : AttrForm) (text : List ℕ) → is_for sites.Class major text (record { site = sites.Class; major = from; form = form }) ≡ true → text ≡ name_of form
+row_named major from form text e = sym ((bytes_decides (name_of form) text).0 (and_parts (leb from major) (is_text (name_of form) text) e).1)
+
+named_by : {C : Type 0} (k : AttrForm) (a b c d : Bool) → is_some_that (is_form k) (one_of_four a b c d) ≡ true → (forms.Host ≡ k → a ≡ true → C) → (forms.Members ≡ k → b ≡ true → C) → (forms.Components ≡ k → c ≡ true → C) → (forms.Permits ≡ k → d ≡ true → C) → C
+named_by k true b c d e f g h i = f (sym (form_is k forms.Host e)) refl
+named_by k false true c d e f g h i = g (sym (form_is k forms.Members e)) refl
+named_by k false false true d e f g h i = h (sym (form_is k forms.Components e)) refl
+named_by k false false false true e f g h i = i (sym (form_is k forms.Permits e)) refl
+named_by k false false false false e f g h i = absurd cc
+
+-- attributes of a form have its name
+pub form_named : (major : ℕ) (k : AttrForm) (text : List ℕ) → names_form major k text ≡ true → text ≡ name_of k
+unfolding first_row
+form_named major k text e =
+    named_by k (is_for sites.Class major text (record { site = sites.Class; major = 55; form = forms.Host })) (is_for sites.Class major text (record { site = sites.Class; major = 55; form = forms.Members }))
+    (is_for sites.Class major text (record { site = sites.Class; major = 60; form = forms.Components })) (is_for sites.Class major text (record { site = sites.Class; major = 61; form = forms.Permits })) e
+    (λ same is. row_named major 55 forms.Host text is ∙ ap name_of same)
+    (λ same is. row_named major 55 forms.Members text is ∙ ap name_of same)
+    (λ same is. row_named major 60 forms.Components text is ∙ ap name_of same)
+    (λ same is. row_named major 61 forms.Permits text is ∙ ap name_of same)
+
+-- a name of another form
+pub form_other : (major : ℕ) (j k : AttrForm) → is_text (name_of j) (name_of k) ≡ false → names_form major k (name_of j) ≡ false
+form_other major j k differ = other_by (names_form major k (name_of j)) refl
+  where
+    other_by : (b : Bool) → names_form major k (name_of j) ≡ b → b ≡ false
+    other_by false e = refl
+    other_by true e = absurd (let same : is_text (name_of j) (name_of k) ≡ true = (bytes_decides (name_of j) (name_of k)).1 (form_named major k (name_of j) e) in cc)

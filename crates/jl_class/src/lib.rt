@@ -23,4 +23,5 @@ pub use flags::{
     is_interface, is_native, is_static,
 };
 pub use member::{CodeBytes, FieldDecl, MemberKey, MethodDecl};
+pub use nests::Nests;
 pub use reading::read_class;

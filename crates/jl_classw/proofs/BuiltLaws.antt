@@ -24,8 +24,10 @@ use Rattle.jl_class.specs.declared.member.MethodDecl.{MethodDecl}
 use Rattle.jl_class.specs.declared.member.MemberKey.{MemberKey}
 use Rattle.jl_class.specs.Classes.{Class}
 use Rattle.jl_class.specs.Meaning.{are_class_flags, are_field_flags, are_method_flags, has_code, is_interface, may_extend, may_be_constant, sets_field, super_named, names_method_with, describes_a_field, describes_method_with, field_key, method_key, is_member_among, names_constant_value, names_code, names_frames}
-use Rattle.jl_class.specs.Spelling.{Attribute, Member, attribute_bytes, handler_bytes, code_bytes, is_some_named, contents, AreAttributes, AtMostOne, IsConstant, IsFrames, IsCode, IsField, IsMethod, IsTable, HasName, IsClass}
+use Rattle.jl_class.specs.Spelling.{Member, handler_bytes, code_bytes, IsConstant, IsFrames, IsCode, IsField, IsMethod, IsClass, HaveNests}
+use Rattle.jl_classfile.specs.Spelling.{Attribute, attribute_bytes, is_some_that, contents, AreAttributes, AtMostOne, IsTable, HasName}
 use Rattle.jl_logic.specs.Lists.{Match}
+use Rattle.jl_classfile.specs.Front.{is_version}
 use Rattle.jl_classw.specs.declared.fault.WriteFault.{WriteFault}
 use Rattle.jl_classw.specs.declared.entry.Constant.{Constant}
 use Rattle.jl_classw.specs.declared.entry.NewEntry.{NewEntry}
@@ -81,6 +83,21 @@ super_is pool (Some name) more i is right utf8 h =
     let named = class_named_is more i e.name name e.there e.text utf8 right.0 in
     (e.grown, (small_index more i (entries.Class e.name) e.grown.right e.there, super_of more i name e.grown.right named))
 
+-- nests of a class with other members
+nests_kept : (c : Class) (interfaces : List (List ℕ)) (fields : List FieldDecl) (methods : List MethodDecl) (more : List Entry) (xs : List Attribute) → HaveNests (record c { pool = more }) xs
+    → HaveNests (record c { interfaces = interfaces; fields = fields; methods = methods; pool = more }) xs
+nests_kept c interfaces fields methods more xs h = record {
+  host = h.host;
+  members = h.members;
+  listed = h.listed;
+  members_are = h.members_are;
+  apart = h.apart;
+  record_kept = h.record_kept;
+  components = h.components;
+  permits = h.permits;
+  extended = h.extended;
+}
+
 -- ---- an interface
 
 pub interface_built : (c : Class) (name : List ℕ) (more : List Entry) (i : ℕ) → IsBuilt c → names_a_class name ≡ true → IsUtf8 name → IsShort name → length c.interfaces < 65535 → class_entered c.pool name ≡ Ok (more, i)
@@ -107,6 +124,7 @@ interface_built c name more i b right utf8 short room h =
         fields = d.fields;
         methods = d.methods;
         attributes = d.attributes;
+        nests = nests_kept c (c.interfaces ++ name ∷ []) c.fields c.methods more p.attributes d.nests;
       };
     }
 
@@ -117,7 +135,7 @@ one_fits pool index name content is there utf8 short = record { few = omega arit
 
 one_content : (pool : List Entry) (is_read : List ℕ → Bool) (index : ℕ) (name content : List ℕ) → slice_get pool index ≡ Some (entries.Utf8 (utf16 name)) → IsUtf8 name → is_read name ≡ true
     → contents pool is_read (record { index = index; content = content } ∷ []) ≡ content ∷ []
-one_content pool is_read index name content there utf8 right = kept_contents pool is_read (record { index = index; content = content }) [] (ap (is_some_named is_read) (text_of_is pool index name there utf8) ∙ right)
+one_content pool is_read index name content there utf8 right = kept_contents pool is_read (record { index = index; content = content }) [] (ap (is_some_that is_read) (text_of_is pool index name there utf8) ∙ right)
 
 -- ---- a field
 
@@ -192,6 +210,7 @@ field_built c flags name desc o named described more index b utf8_attribute shor
         fields = table_push (IsField (is_interface c.flags) more) field_key p.fields c.fields member field d.fields is fresh room;
         methods = d.methods;
         attributes = d.attributes;
+        nests = nests_kept c c.interfaces (c.fields ++ field ∷ []) c.methods more p.attributes d.nests;
       };
     }
 
@@ -312,6 +331,7 @@ method_built c flags name desc o named described more b utf8_code short_code utf
         fields = d.fields;
         methods = table_push (IsMethod more) method_key p.methods c.methods member method d.methods is fresh room;
         attributes = d.attributes;
+        nests = nests_kept c c.interfaces c.fields (c.methods ++ method ∷ []) more p.attributes d.nests;
       };
     }
 
@@ -320,10 +340,10 @@ method_built c flags name desc o named described more b utf8_code short_code utf
 first_pool : IsPool (entries.Unused ∷ [])
 first_pool = record { es = []; first = refl; right = record { few = omega arith; spaced = tt; fit = tt; refer = tt }; inside = refl }
 
-pub class_built : (major flags : ℕ) (name : List ℕ) (super_name : Option (List ℕ)) (this more : List Entry) (i j : ℕ) → (major ≡ 53) ⊎ (major ≡ 54) → flags < 65536 → are_class_flags flags ≡ true → names_a_class name ≡ true → IsUtf8 name → IsShort name
+pub class_built : (major flags : ℕ) (name : List ℕ) (super_name : Option (List ℕ)) (this more : List Entry) (i j : ℕ) → is_version major 0 ≡ true → flags < 65536 → are_class_flags flags ≡ true → names_a_class name ≡ true → IsUtf8 name → IsShort name
     → IsSuper super_name → IfSome super_name IsUtf8 → may_extend flags name super_name ≡ true
     → class_entered (entries.Unused ∷ []) name ≡ Ok (this, i) → super_entered this super_name ≡ Ok (more, j)
-    → IsBuilt (record { major = major; minor = 0; flags = flags; name = name; super_name = super_name; interfaces = []; fields = []; methods = []; pool = more })
+    → IsBuilt (record { major = major; minor = 0; flags = flags; name = name; super_name = super_name; interfaces = []; fields = []; methods = []; nest_host = None; nest_members = []; permits = None; pool = more })
 class_built major flags name super_name this more i j version small right right_name utf8 short super utf8_super extends h k =
     let e = class_is_entered (entries.Unused ∷ []) name this i first_pool utf8 short h in
     let s = super_is this super_name more j e.grown.right super utf8_super k in
@@ -345,6 +365,7 @@ class_built major flags name super_name this more i j version small right right_
         fields = record { few = omega arith; each = tt; distinct = tt };
         methods = record { few = omega arith; each = tt; distinct = tt };
         attributes = record { few = omega arith; fit = tt };
+        nests = record { host = refl; members = None; listed = refl; members_are = refl; apart = refl; record_kept = None; components = refl; permits = refl; extended = refl };
       };
     }
 
@@ -459,10 +480,10 @@ method_kept c one other third_front new first second third more flags row_name r
     kept (record c { methods = rows; pool = more }) (subst (λ (l : List MethodDecl). IsBuilt (record c { methods = l; pool = more })) listed built)
 
 pub class_kept : (start front other new first second more : List Entry) (major flags : ℕ) (row_name name : List ℕ) (row_super super_name : Option (List ℕ)) (interfaces : List (List ℕ)) (fields : List FieldDecl) (methods : List MethodDecl) (i j : ℕ)
-    → (major ≡ 53) ⊎ (major ≡ 54) → flags < 65536 → are_class_flags flags ≡ true → names_a_class name ≡ true → IsUtf8 name → IsShort name → IsSuper super_name → IfSome super_name IsUtf8 → may_extend flags name super_name ≡ true
+    → is_version major 0 ≡ true → flags < 65536 → are_class_flags flags ≡ true → names_a_class name ≡ true → IsUtf8 name → IsShort name → IsSuper super_name → IfSome super_name IsUtf8 → may_extend flags name super_name ≡ true
     → start ≡ entries.Unused ∷ [] → front ≡ start → other ≡ start → new ≡ [] → class_entered (front ++ new) name ≡ Ok (front ++ first, i) → super_entered (other ++ first) super_name ≡ Ok (other ++ second, j)
     → row_name ≡ name → row_super ≡ super_name → interfaces ≡ [] → fields ≡ [] → methods ≡ [] → more ≡ start ++ second
-    → Kept (record { major = major; minor = 0; flags = flags; name = row_name; super_name = row_super; interfaces = interfaces; fields = fields; methods = methods; pool = more })
+    → Kept (record { major = major; minor = 0; flags = flags; name = row_name; super_name = row_super; interfaces = interfaces; fields = fields; methods = methods; nest_host = None; nest_members = []; permits = None; pool = more })
 class_kept start front other new first second more major flags row_name name row_super super_name interfaces fields methods i j version small right right_name utf8 short super utf8_super extends begins e f n h k same_name same_super no_interfaces no_fields no_methods more_is =
     let front_is : front ≡ entries.Unused ∷ [] = e ∙ begins in
     let other_is : other ≡ entries.Unused ∷ [] = f ∙ begins in
@@ -470,7 +491,7 @@ class_kept start front other new first second more major flags row_name name row
     let this : class_entered (entries.Unused ∷ []) name ≡ Ok ((entries.Unused ∷ []) ++ first, i) = sym (given (λ (l : List Entry). class_entered l name) (entries.Unused ∷ []) front new front_is n) ∙ (h ∙ ap (λ (l : List Entry). Ok (l ++ first, i)) front_is) in
     let above : super_entered ((entries.Unused ∷ []) ++ first) super_name ≡ Ok (more, j) = subst (λ (l : List Entry). super_entered (l ++ first) super_name ≡ Ok (l ++ second, j)) other_is k ∙ ap (λ (l : List Entry). Ok (l, j)) (sym pool_is) in
     let built = class_built major flags name super_name ((entries.Unused ∷ []) ++ first) more i j version small right right_name utf8 short super utf8_super extends this above in
-    let made : List ℕ → Option (List ℕ) → List (List ℕ) → List FieldDecl → List MethodDecl → Class = λ n s is fs ms. record { major = major; minor = 0; flags = flags; name = n; super_name = s; interfaces = is; fields = fs; methods = ms; pool = more } in
+    let made : List ℕ → Option (List ℕ) → List (List ℕ) → List FieldDecl → List MethodDecl → Class = λ n s is fs ms. record { major = major; minor = 0; flags = flags; name = n; super_name = s; interfaces = is; fields = fs; methods = ms; nest_host = None; nest_members = []; permits = None; pool = more } in
     let named_so = subst (λ (n : List ℕ). IsBuilt (made n super_name [] [] [])) (sym same_name) built in
     let extended = subst (λ (s : Option (List ℕ)). IsBuilt (made row_name s [] [] [])) (sym same_super) named_so in
     let listed = subst (λ (is : List (List ℕ)). IsBuilt (made row_name row_super is [] [])) (sym no_interfaces) extended in

@@ -5,7 +5,7 @@ use Rattle.std.specs.List.{flat_map}
 use Rattle.std.proofs.lemmas.List.{append-nil, length-map}
 use Rattle.std.proofs.lemmas.List.Concat.{flat_map-cons}
 use Rattle.jl_reading.specs.Reading.{two, counted}
-use Rattle.jl_class.specs.Spelling.{Attribute, attribute_bytes}
+use Rattle.jl_classfile.specs.Spelling.{Attribute, attribute_bytes}
 
 -- one attribute, behind its count
 pub one_attribute : (a : Attribute) → two 1 ++ attribute_bytes a ≡ counted attribute_bytes (a ∷ [])

@@ -1,6 +1,7 @@
 -- What declares a class declares it over a pool that grew.
 use Rattle.std.proofs.Common.{◌≡◌, ℕ, Bool, true, false, List, [], ◌∷◌, Option, None, Some, refl, sym, ap, subst, ◌∙◌, inl, inr}
-use Rattle.std.specs.Prelude.{◌==◌, option_map, if◌then◌else◌}
+use Rattle.jl_optable.specs.declared.attributes.AttrForm.TheVariants as forms
+use Rattle.std.specs.Prelude.{⊤, ◌==◌, option_map, if◌then◌else◌}
 use Rattle.std.specs.List.{AllByRecursion}
 use Rattle.std.specs.Option.{option_and_then}
 use Rattle.std.proofs.lemmas.Bool.{cases_Bool}
@@ -15,7 +16,8 @@ use Rattle.jl_class.specs.declared.member.MethodDecl.{MethodDecl}
 use Rattle.jl_class.specs.declared.member.MemberKey.{MemberKey}
 use Rattle.jl_class.specs.Classes.{Class}
 use Rattle.jl_class.specs.Meaning.{super_named, may_be_constant, sets_field, names_method_with, describes_a_field, describes_method_with, field_key, method_key, is_interface, names_constant_value, names_code, names_frames}
-use Rattle.jl_class.specs.Spelling.{Attribute, Member, Parts, is_some_named, contents, AttributeFits, AreAttributes, AtMostOne, IsConstant, IsFrames, IsCode, MemberFits, IsField, IsMethod, IsTable, HasName, Declares}
+use Rattle.jl_class.specs.Spelling.{Member, Parts, IsConstant, IsFrames, IsCode, MemberFits, IsField, IsMethod, Declares, Component, IsComponent, IsRecord, IsHost, AreClasses, HaveNests, names_form}
+use Rattle.jl_classfile.specs.Spelling.{Attribute, is_some_that, contents, AttributeFits, AreAttributes, AtMostOne, IsTable, HasName}
 use Rattle.jl_classw.proofs.PartLaws.{kept_contents, passed_contents}
 use Rattle.jl_classw.proofs.PoolGrowth.{Grown, still, some_of}
 
@@ -78,9 +80,9 @@ module _ (a b : List Entry) (g : Grown a b) where
   contents_still : (is_read : List ℕ → Bool) (xs : List Attribute) → AllByRecursion (AttributeFits a) xs → contents b is_read xs ≡ contents a is_read xs
   contents_still is_read [] fit = refl
   contents_still is_read (x ∷ xs) fit =
-      let same : is_some_named is_read (text_of b x.index) ≡ is_some_named is_read (text_of a x.index) = ap (is_some_named is_read) (text_of_still x.index fit.0.2.0 fit.0.2.1 ∙ sym fit.0.2.1) in
+      let same : is_some_that is_read (text_of b x.index) ≡ is_some_that is_read (text_of a x.index) = ap (is_some_that is_read) (text_of_still x.index fit.0.2.0 fit.0.2.1 ∙ sym fit.0.2.1) in
       let rest = contents_still is_read xs fit.1 in
-      elim (cases_Bool (is_some_named is_read (text_of a x.index))) [
+      elim (cases_Bool (is_some_that is_read (text_of a x.index))) [
         | inl t ↦ kept_contents b is_read x xs (same ∙ t) ∙ (ap (λ (l : List (List ℕ)). x.content ∷ l) rest ∙ sym (kept_contents a is_read x xs t))
         | inr f ↦ passed_contents b is_read x xs (same ∙ f) ∙ (rest ∙ sym (passed_contents a is_read x xs f))
       ]
@@ -130,6 +132,37 @@ module _ (a b : List Entry) (g : Grown a b) where
   name_still : (i : ℕ) (t : List ℕ) → HasName (class_named a) i t → HasName (class_named b) i t
   name_still i t h = (h.0, class_named_still i t h.1)
 
+  -- ---- attributes of a class
+
+  host_still : (c name : List ℕ) → IsHost a c name → IsHost b c name
+  host_still c name h = (h.0, h.1, name_still h.0 name h.2)
+
+  classes_still : (c : List ℕ) (names : List (List ℕ)) → AreClasses a c names → AreClasses b c names
+  classes_still c names r = record { indices = r.indices; is = r.is; few = r.few; each = match_as {R = HasName (class_named a)} {S = HasName (class_named b)} name_still r.indices names r.each }
+
+  component_still : (c : Component) → IsComponent a c → IsComponent b c
+  component_still c is = record {
+    named = (is.named.0, (is.named.1.0, text_that_still names_a_field c.name is.named.0 is.named.1.1));
+    described = (is.described.0, (is.described.1.0, text_that_still describes_a_field c.desc is.described.0 is.described.1.1));
+    attributes = attributes_still c.attributes is.attributes;
+  }
+
+  record_still : (c : List ℕ) (kept : ⊤) → IsRecord a c kept → IsRecord b c kept
+  record_still c kept r = record { components = r.components; is = r.is; few = r.few; each = all_as (IsComponent a) (IsComponent b) component_still r.components r.each }
+
+  nests_still : (c : Class) (xs : List Attribute) → AllByRecursion (AttributeFits a) xs → HaveNests (record c { pool = a }) xs → HaveNests (record c { pool = b }) xs
+  nests_still c xs fit h = record {
+    host = at_most_one_as (IsHost a) (IsHost b) (contents a (names_form c.major forms.Host) xs) (contents b (names_form c.major forms.Host) xs) c.nest_host (contents_still (names_form c.major forms.Host) xs fit) host_still h.host;
+    members = h.members;
+    listed = at_most_one_as (AreClasses a) (AreClasses b) (contents a (names_form c.major forms.Members) xs) (contents b (names_form c.major forms.Members) xs) h.members (contents_still (names_form c.major forms.Members) xs fit) classes_still h.listed;
+    members_are = h.members_are;
+    apart = h.apart;
+    record_kept = h.record_kept;
+    components = at_most_one_as (IsRecord a) (IsRecord b) (contents a (names_form c.major forms.Components) xs) (contents b (names_form c.major forms.Components) xs) h.record_kept (contents_still (names_form c.major forms.Components) xs fit) record_still h.components;
+    permits = at_most_one_as (AreClasses a) (AreClasses b) (contents a (names_form c.major forms.Permits) xs) (contents b (names_form c.major forms.Permits) xs) c.permits (contents_still (names_form c.major forms.Permits) xs fit) classes_still h.permits;
+    extended = h.extended;
+  }
+
   pub declares_still : (p : Parts) (c : Class) → c.pool ≡ a → Declares p c → Declares p (record c { pool = b })
   declares_still p c same d0 =
       let d : Declares p (record c { pool = a }) = subst (λ (l : List Entry). Declares p (record c { pool = l })) same d0 in
@@ -144,4 +177,5 @@ module _ (a b : List Entry) (g : Grown a b) where
         fields = table_still (IsField (is_interface c.flags) a) (IsField (is_interface c.flags) b) field_key (field_still (is_interface c.flags)) p.fields c.fields d.fields;
         methods = table_still (IsMethod a) (IsMethod b) method_key method_still p.methods c.methods d.methods;
         attributes = attributes_still p.attributes d.attributes;
+        nests = nests_still c p.attributes d.attributes.fit d.nests;
       }

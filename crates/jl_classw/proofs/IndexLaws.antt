@@ -12,7 +12,7 @@ use Rattle.jl_pool.specs.declared.entry.Entry.{Entry}
 use Rattle.jl_pool.specs.declared.entry.Entry.TheVariants as entries
 use Rattle.jl_pool.specs.Pool.{utf8_units, class_name, text_of, paired, paired_text, that, text_that, class_named}
 use Rattle.jl_class.specs.Meaning.{super_named}
-use Rattle.jl_class.specs.Spelling.{HasName}
+use Rattle.jl_classfile.specs.Spelling.{HasName}
 use Rattle.jl_classw.specs.Writing.{is_named, or_here, first_of, or_zero, index_by, text_index, class_index, super_index, attribute_index}
 
 -- ---- the least index

@@ -1,6 +1,6 @@
-mod Rows
 pub mod BytesLaws
 pub mod IndexLaws
+pub mod NestsWritten
 pub mod PartLaws
 pub mod WholeLaws
 pub mod PositionLaws

@@ -14,7 +14,8 @@ use Rattle.jl_class.specs.declared.member.FieldDecl.{FieldDecl}
 use Rattle.jl_class.specs.declared.member.MethodDecl.{MethodDecl}
 use Rattle.jl_class.specs.declared.member.MemberKey.{MemberKey}
 use Rattle.jl_class.specs.Meaning.{names_method_with, describes_a_field, describes_method_with, names_constant_value, names_code, names_frames}
-use Rattle.jl_class.specs.Spelling.{Attribute, Member, attribute_bytes, handler_bytes, code_bytes, is_some_named, contents, AttributeFits, AreAttributes, AtMostOne, IsConstant, IsFrames, IsCode, IsField, IsMethod, IsTable}
+use Rattle.jl_class.specs.Spelling.{Member, handler_bytes, code_bytes, IsConstant, IsFrames, IsCode, IsField, IsMethod}
+use Rattle.jl_classfile.specs.Spelling.{Attribute, attribute_bytes, is_some_that, contents, AttributeFits, AreAttributes, AtMostOne, IsTable}
 use Rattle.jl_logic.specs.Lists.{Match}
 use Rattle.jl_classw.specs.Writing.{named_attribute, optional, constant_attribute, frames_attribute, code_content, code_attribute, field_member, method_member, IsShortCode}
 use Rattle.jl_classw.proofs.IndexLaws.{text_is, text_place, attribute_place}
@@ -24,22 +25,22 @@ use Rattle.jl_classw.proofs.IndexLaws.{text_is, text_place, attribute_place}
 -- an attribute with a name that is read, and this content
 pub record Named (pool : List Entry) (is_read : List ℕ → Bool) (content : List ℕ) (a : Attribute) : Type 0 where
   pub is : a.content ≡ content
-  pub named : is_some_named is_read (text_of pool a.index) ≡ true
+  pub named : is_some_that is_read (text_of pool a.index) ≡ true
   pub fits : AttributeFits pool a
 
-pub kept_contents : (pool : List Entry) (is_read : List ℕ → Bool) (a : Attribute) (others : List Attribute) → is_some_named is_read (text_of pool a.index) ≡ true → contents pool is_read (a ∷ others) ≡ a.content ∷ contents pool is_read others
+pub kept_contents : (pool : List Entry) (is_read : List ℕ → Bool) (a : Attribute) (others : List Attribute) → is_some_that is_read (text_of pool a.index) ≡ true → contents pool is_read (a ∷ others) ≡ a.content ∷ contents pool is_read others
 kept_contents pool is_read a others t = rw t refl
 
-pub passed_contents : (pool : List Entry) (is_read : List ℕ → Bool) (a : Attribute) (others : List Attribute) → is_some_named is_read (text_of pool a.index) ≡ false → contents pool is_read (a ∷ others) ≡ contents pool is_read others
+pub passed_contents : (pool : List Entry) (is_read : List ℕ → Bool) (a : Attribute) (others : List Attribute) → is_some_that is_read (text_of pool a.index) ≡ false → contents pool is_read (a ∷ others) ≡ contents pool is_read others
 passed_contents pool is_read a others f = rw f refl
 
 first_is : {A : Type 0} (x y : A) (xs ys : List A) → x ∷ xs ≡ y ∷ ys → x ≡ y
 first_is x y xs ys e = cc
 
-one_named : (pool : List Entry) (is_read : List ℕ → Bool) (attributes : List Attribute) (c : List ℕ) (cs : List (List ℕ)) → AllByRecursion (AttributeFits pool) attributes → contents pool is_read attributes ≡ c ∷ cs
+pub one_named : (pool : List Entry) (is_read : List ℕ → Bool) (attributes : List Attribute) (c : List ℕ) (cs : List (List ℕ)) → AllByRecursion (AttributeFits pool) attributes → contents pool is_read attributes ≡ c ∷ cs
     → (a : Attribute) × Named pool is_read c a × (6 + length c ≤ length (flat_map attribute_bytes attributes))
 one_named pool is_read [] c cs fit e = absurd cc
-one_named pool is_read (a ∷ others) c cs fit e = elim (cases_Bool (is_some_named is_read (text_of pool a.index))) [
+one_named pool is_read (a ∷ others) c cs fit e = elim (cases_Bool (is_some_that is_read (text_of pool a.index))) [
   | inl t ↦
       let same : a.content ≡ c = first_is a.content c (contents pool is_read others) cs (sym (kept_contents pool is_read a others t) ∙ e) in
       (a, record { is = same; named = t; fits = fit.0 }, long_first a others c same)
@@ -61,7 +62,7 @@ one_named pool is_read (a ∷ others) c cs fit e = elim (cases_Bool (is_some_nam
         let m = ap length (flat_map-cons attribute_bytes a others) in
         omega (arith, l, m)
 
-some_named : (is_read : List ℕ → Bool) (name : List ℕ) (o : Option (List ℕ)) → ((text : List ℕ) → is_read text ≡ true → text ≡ name) → is_some_named is_read o ≡ true → o ≡ Some name
+pub some_named : (is_read : List ℕ → Bool) (name : List ℕ) (o : Option (List ℕ)) → ((text : List ℕ) → is_read text ≡ true → text ≡ name) → is_some_that is_read o ≡ true → o ≡ Some name
 some_named is_read name None h e = absurd cc
 some_named is_read name (Some text) h e = ap (λ (t : List ℕ). Some t) (h text e)
 
@@ -91,7 +92,7 @@ module _ (pool : List Entry) (few : length pool < 65536) where
       let place = attribute_place pool few name a.index there in
       record {
         fit = ((place.1, short, (name, place.0)), tt);
-        alone = kept_contents pool is_read (named_attribute pool name content) [] (ap (is_some_named is_read) place.0 ∙ right);
+        alone = kept_contents pool is_read (named_attribute pool name content) [] (ap (is_some_that is_read) place.0 ∙ right);
       }
 
   -- ---- a ConstantValue

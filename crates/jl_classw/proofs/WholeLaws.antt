@@ -1,5 +1,5 @@
 -- What is written is a file of the class.
-use Rattle.std.proofs.Common.{◌≡◌, ℕ, ◌+◌, ◌<◌, List, [], ◌∷◌, ◌++◌, map, length, drop, Option, None, refl, sym, ap, subst, ◌∙◌, append_assoc, arith, inl}
+use Rattle.std.proofs.Common.{true, ◌≡◌, ℕ, ◌+◌, ◌<◌, List, [], ◌∷◌, ◌++◌, map, length, drop, Option, None, refl, sym, ap, subst, ◌∙◌, append_assoc, arith, inl}
 use Rattle.std.specs.Prelude.{◌⊎◌, Result, Ok, Err, IfOk, position}
 use Rattle.std.specs.List.{flat_map, AllByRecursion}
 use Rattle.std.proofs.lemmas.List.{append-nil, length-append, drop_at, length-map}
@@ -15,11 +15,14 @@ use Rattle.jl_class.specs.Classes.{Class}
 use Rattle.jl_class.specs.Reading.{class_of}
 use Rattle.jl_class.specs.Meaning.{is_interface, is_of_modules, super_named}
 use Rattle.jl_pool.specs.Pool.{class_named}
-use Rattle.jl_class.specs.Spelling.{Parts, member_bytes, back_bytes, HasName, IsField, IsMethod, Declares, IsClass}
+use Rattle.jl_class.specs.Spelling.{Parts, member_bytes, back_bytes, IsField, IsMethod, Declares, IsClass}
+use Rattle.jl_classfile.specs.Front.{is_version}
+use Rattle.jl_classfile.specs.Spelling.{HasName, attribute_bytes}
 use Rattle.jl_class.specs.Meaning.{field_key, method_key}
-use Rattle.jl_classw.specs.Writing.{class_index, super_index, field_member, method_member, parts_of, front_bytes, pool_bytes, names_bytes, members_bytes, file_bytes, IsShortCode, IsWritable}
+use Rattle.jl_classw.specs.Writing.{class_index, super_index, field_member, method_member, parts_of, front_of, pool_bytes, names_bytes, members_bytes, nest_attributes, file_bytes, IsShortCode, IsWritable}
 use Rattle.jl_classw.proofs.BytesLaws.{counted_mapped}
 use Rattle.jl_classw.proofs.IndexLaws.{class_place, super_place}
+use Rattle.jl_classw.proofs.NestsWritten.{nests_written, members_short, permits_short}
 use Rattle.jl_classw.proofs.PartLaws.{field_written, method_written, method_short, match_written, match_all, match_length, table_written}
 
 -- a text behind a front, before a rest
@@ -32,16 +35,16 @@ stands_in front text rest =
 -- ---- bytes of a class whose parts are right
 
 pub bytes_by : Class → Parts → List ℕ
-bytes_by c p = front_bytes c ++ (pool_bytes c.pool ++ back_bytes c.flags p)
+bytes_by c p = front_of c ++ (pool_bytes c.pool ++ back_bytes c.flags p)
 
 pool_same : (es : List Entry) → pool_bytes (entries.Unused ∷ es) ≡ two (length (entries.Unused ∷ es)) ++ flat_map entry_bytes es
 pool_same es = ap (λ (l : List ℕ). two (length (entries.Unused ∷ es)) ++ l) (flat_map-cons entry_bytes entries.Unused es)
 
-pub is_class : (c : Class) (p : Parts) (es : List Entry) → c.minor < 65536 → (c.major ≡ 53) ⊎ (c.major ≡ 54) → c.pool ≡ entries.Unused ∷ es → ArePoolEntries es → position is_of_modules c.pool ≡ None → Declares p c
+pub is_class : (c : Class) (p : Parts) (es : List Entry) → c.minor < 65536 → is_version c.major c.minor ≡ true → c.pool ≡ entries.Unused ∷ es → ArePoolEntries es → position is_of_modules c.pool ≡ None → Declares p c
     → IsClass (bytes_by c p) c
 unfolding bytes_by
 is_class c p es minor version first right inside declares =
-    let front = front_bytes c in
+    let front = front_of c in
     let pool = pool_bytes c.pool in
     let back = back_bytes c.flags p in
     let bytes = front ++ (pool ++ back) in
@@ -93,7 +96,8 @@ parts_right c p es first few d =
       interfaces = match_written (HasName (class_named c.pool)) (class_index c.pool) (λ i name h. class_place c.pool few name i h) p.interfaces c.interfaces d.interfaces;
       fields = table_written (IsField (is_interface c.flags) c.pool) field_key (field_member c.pool) (field_written c.pool few (is_interface c.flags)) p.fields c.fields d.fields;
       methods = table_written (IsMethod c.pool) method_key (method_member c.pool) (method_written c.pool few) p.methods c.methods d.methods;
-      attributes = record { few = omega arith; fit = tt };
+      attributes = (nests_written c p.attributes few d.attributes d.nests).0;
+      nests = (nests_written c p.attributes few d.attributes d.nests).1;
     }
 
 back_same : (c : Class) → names_bytes c.pool c ++ members_bytes c.pool c ≡ back_bytes c.flags (parts_of c)
@@ -101,13 +105,14 @@ back_same c =
     let before : List ℕ → List ℕ = λ rest. two c.flags ++ (two (class_index c.pool c.name) ++ (two (super_index c.pool c.super_name) ++ rest)) in
     let fields = counted (λ f. member_bytes (field_member c.pool f)) c.fields in
     let methods = counted (λ m. member_bytes (method_member c.pool m)) c.methods in
-    ap (λ (i : List ℕ). before (i ++ (fields ++ (methods ++ two 0)))) (sym (counted_mapped (class_index c.pool) two c.interfaces))
-    ∙ (ap (λ (f : List ℕ). before (counted two (map (class_index c.pool) c.interfaces) ++ (f ++ (methods ++ two 0)))) (sym (counted_mapped (field_member c.pool) member_bytes c.fields))
-    ∙ ap (λ (m : List ℕ). before (counted two (map (class_index c.pool) c.interfaces) ++ (counted member_bytes (map (field_member c.pool) c.fields) ++ (m ++ two 0)))) (sym (counted_mapped (method_member c.pool) member_bytes c.methods)))
+    let last = counted attribute_bytes (nest_attributes c.pool c) in
+    ap (λ (i : List ℕ). before (i ++ (fields ++ (methods ++ last)))) (sym (counted_mapped (class_index c.pool) two c.interfaces))
+    ∙ (ap (λ (f : List ℕ). before (counted two (map (class_index c.pool) c.interfaces) ++ (f ++ (methods ++ last)))) (sym (counted_mapped (field_member c.pool) member_bytes c.fields))
+    ∙ ap (λ (m : List ℕ). before (counted two (map (class_index c.pool) c.interfaces) ++ (counted member_bytes (map (field_member c.pool) c.fields) ++ (m ++ last)))) (sym (counted_mapped (method_member c.pool) member_bytes c.methods)))
 
 pub file_same : (c : Class) → file_bytes c ≡ bytes_by c (parts_of c)
 unfolding bytes_by
-file_same c = ap (λ (back : List ℕ). front_bytes c ++ (pool_bytes c.pool ++ back)) (back_same c)
+file_same c = ap (λ (back : List ℕ). front_of c ++ (pool_bytes c.pool ++ back)) (back_same c)
 
 -- ---- a class that some file declares
 
@@ -134,6 +139,8 @@ writable bytes c is =
       interfaces = omega (arith, interfaces, few_interfaces);
       fields = omega (arith, fields, few_fields);
       methods = omega (arith, methods, few_methods);
+      nest_members = members_short c p.attributes few d.nests;
+      permits = permits_short c p.attributes few d.nests;
       codes = match_all (IsMethod c.pool) (λ (m : MethodDecl). IsShortCode c.pool m.code) (method_short c.pool few) p.methods c.methods d.methods.each;
     }
 

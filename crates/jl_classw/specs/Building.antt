@@ -155,6 +155,9 @@ new_class major flags name super_name = do
     interfaces = [];
     fields = [];
     methods = [];
+    nest_host = None;
+    nest_members = [];
+    permits = None;
     pool = super.0;
   })
 

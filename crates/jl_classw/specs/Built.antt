@@ -9,6 +9,7 @@ use Rattle.jl_pool.specs.declared.entry.Entry.TheVariants as entries
 use Rattle.jl_pool.specs.Builder.{IsShort}
 use Rattle.jl_pool.specs.Spelling.{ArePoolEntries}
 use Rattle.jl_class.specs.declared.member.CodeBytes.{CodeBytes}
+use Rattle.jl_classfile.specs.Front.{is_version}
 use Rattle.jl_class.specs.Classes.{Class}
 use Rattle.jl_class.specs.Meaning.{is_of_modules, may_be_constant}
 use Rattle.jl_class.specs.Spelling.{Parts, HandlerFits, Declares}
@@ -30,7 +31,7 @@ pub record IsPool (pool : List Entry) : Type 0 where
 pub record IsBuilt (c : Class) : Type 0 where
   pub pool : IsPool c.pool
   pub minor : c.minor < 65536
-  pub version : (c.major ≡ 53) ⊎ (c.major ≡ 54)
+  pub version : IsTrue (is_version c.major c.minor)
   pub parts : Parts
   pub declares : Declares parts c
 

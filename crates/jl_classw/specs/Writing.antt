@@ -1,4 +1,4 @@
--- The file that is written for a class (JVMS 4.1): each name by the least right index, and no attributes but ConstantValue, Code and StackMapTable.
+-- The file that is written for a class (JVMS 4.1): each name by the least right index, and no attributes but those that say what the class is.
 use Rattle.std.specs.Prelude.{ℕ, zero, suc, ◌<◌, List, [], ◌∷◌, ◌++◌, length, map, Option, None, Some, Bool, false, codes, ⊤, if◌then◌else◌}
 use Rattle.std.specs.List.{flat_map, AllByRecursion}
 use Rattle.std.specs.Option.{option_map_or}
@@ -10,8 +10,13 @@ use Rattle.jl_pool.specs.Spelling.{entry_bytes, EntryFits}
 use Rattle.jl_class.specs.declared.member.CodeBytes.{CodeBytes}
 use Rattle.jl_class.specs.declared.member.FieldDecl.{FieldDecl}
 use Rattle.jl_class.specs.declared.member.MethodDecl.{MethodDecl}
+use Rattle.jl_optable.specs.declared.attributes.AttrForm.{AttrForm}
+use Rattle.jl_optable.specs.declared.attributes.AttrForm.TheVariants as forms
+use Rattle.jl_optable.specs.Attributes.{name_of}
+use Rattle.jl_classfile.specs.Front.{front_bytes}
 use Rattle.jl_class.specs.Classes.{Class}
-use Rattle.jl_class.specs.Spelling.{Attribute, Member, Parts, member_bytes, code_bytes, CodeFits}
+use Rattle.jl_class.specs.Spelling.{Member, Parts, member_bytes, code_bytes, CodeFits}
+use Rattle.jl_classfile.specs.Spelling.{Attribute, attribute_bytes}
 
 -- ---- indices
 
@@ -73,6 +78,25 @@ code_content pool c = code_bytes c (optional (frames_attribute pool) c.frames)
 abbrev pub code_attribute : List Entry → CodeBytes → Attribute
 code_attribute pool c = named_attribute pool (codes "Code") (code_content pool c)
 
+-- ---- attributes of a class (JVMS 4.7.28, 4.7.29, 4.7.31)
+
+abbrev pub host_attribute : List Entry → List ℕ → Attribute
+host_attribute pool name = named_attribute pool (name_of forms.Host) (two (class_index pool name))
+
+-- an attribute that lists classes
+abbrev pub classes_attribute : List Entry → AttrForm → List (List ℕ) → Attribute
+classes_attribute pool form names = named_attribute pool (name_of form) (counted two (map (class_index pool) names))
+
+-- a list, where there is anything in it
+abbrev pub unless_none : {A : Type 0} → List A → Option (List A)
+unless_none [] = None
+unless_none (x ∷ xs) = Some (x ∷ xs)
+
+abbrev pub nest_attributes : List Entry → Class → List Attribute
+nest_attributes pool c =
+    optional (host_attribute pool) c.nest_host
+    ++ (optional (classes_attribute pool forms.Members) (unless_none c.nest_members) ++ optional (classes_attribute pool forms.Permits) c.permits)
+
 -- ---- members (JVMS 4.5, 4.6)
 
 abbrev pub field_member : List Entry → FieldDecl → Member
@@ -100,11 +124,11 @@ parts_of c = record {
   interfaces = map (class_index c.pool) c.interfaces;
   fields = map (field_member c.pool) c.fields;
   methods = map (method_member c.pool) c.methods;
-  attributes = [];
+  attributes = nest_attributes c.pool c;
 }
 
-abbrev pub front_bytes : Class → List ℕ
-front_bytes c = four 0xCAFEBABE ++ (two c.minor ++ two c.major)
+abbrev pub front_of : Class → List ℕ
+front_of c = front_bytes c.major c.minor
 
 abbrev pub pool_bytes : List Entry → List ℕ
 pool_bytes pool = two (length pool) ++ flat_map entry_bytes pool
@@ -115,20 +139,24 @@ names_bytes pool c =
     two c.flags ++ (two (class_index pool c.name) ++ (two (super_index pool c.super_name)
     ++ counted (λ name. two (class_index pool name)) c.interfaces))
 
--- its fields and methods, and the count of its attributes
+-- its fields, methods and attributes
 abbrev pub members_bytes : List Entry → Class → List ℕ
 members_bytes pool c =
     counted (λ f. member_bytes (field_member pool f)) c.fields
-    ++ (counted (λ m. member_bytes (method_member pool m)) c.methods ++ two 0)
+    ++ (counted (λ m. member_bytes (method_member pool m)) c.methods ++ counted attribute_bytes (nest_attributes pool c))
 
 abbrev pub file_bytes : Class → List ℕ
-file_bytes c = front_bytes c ++ (pool_bytes c.pool ++ (names_bytes c.pool c ++ members_bytes c.pool c))
+file_bytes c = front_of c ++ (pool_bytes c.pool ++ (names_bytes c.pool c ++ members_bytes c.pool c))
 
 -- ---- what fits a file
 
 abbrev pub IsShortCode : List Entry → Option CodeBytes → Type 0
 IsShortCode pool None = ⊤
 IsShortCode pool (Some c) = CodeFits c × (length (code_content pool c) < 4294967296)
+
+abbrev pub IsShortList : Option (List (List ℕ)) → Type 0
+IsShortList None = ⊤
+IsShortList (Some names) = length names < 65536
 
 -- the numbers of a class with this pool fit their bytes
 pub record IsWritable (pool : List Entry) (c : Class) : Type 0 where
@@ -138,3 +166,5 @@ pub record IsWritable (pool : List Entry) (c : Class) : Type 0 where
   pub fields : length c.fields < 65536
   pub methods : length c.methods < 65536
   pub codes : AllByRecursion (λ (m : MethodDecl). IsShortCode pool m.code) c.methods
+  pub nest_members : length c.nest_members < 65536
+  pub permits : IsShortList c.permits

@@ -9,6 +9,7 @@ ghost use Rattle.jl_names.specs.Names.{names_a_class, names_a_field};
 ghost use Rattle.jl_pool.specs.Builder.{IsShort};
 ghost use Rattle.jl_class.specs.Meaning.{field_key, method_key, is_member_among, are_class_flags, are_field_flags, are_method_flags, is_interface, may_extend, names_method_with, describes_a_field, describes_method_with, has_code};
 ghost use Rattle.jl_class.specs.Spelling.{IsClass};
+ghost use Rattle.jl_classfile.specs.Front.{is_version};
 ghost use Rattle.jl_classw.specs.Faults.{told};
 ghost use Rattle.jl_classw.specs.Built.{IsSuper, IsShortEntry, IsTagged, MayHave, IsSmall};
 ghost use Rattle.jl_classw.specs.Building.{new_class, with_entry, with_interface, with_field, with_method};
@@ -19,10 +20,9 @@ use crate::entry::{Constant, NewEntry};
 use crate::fault::{WriteFault, too_many};
 use crate::member_table::{Member, MemberTable};
 use crate::needs::{enter_code, enter_name, enter_optional, enter_super, has_many_handlers};
-use bitflags::Flags;
-use jl_class::{ClassDecl, CodeBytes, FieldDecl, MethodDecl};
+use jl_class::{ClassDecl, CodeBytes, FieldDecl, MethodDecl, Nests, is_interface};
 use jl_pool::{Entry, Pool};
-use jl_prim::{AccessFlags, Copied, Items, Name};
+use jl_prim::{Copied, Items, Name};
 use std::alloc::Global;
 use std::marker::Model;
 
@@ -45,15 +45,15 @@ pub struct ClassBuilder {
 }
 
 impl Model for ClassBuilder {
-    ghost use Rattle.std.specs.Prelude.{◌<◌, length};
+    ghost use Rattle.std.specs.Prelude.{◌<◌, length, None, []};
     ghost use Rattle.jl_class.specs.Classes.{Class};
     ghost use Rattle.jl_classw.specs.Built.{IsBuilt};
 
     ghost Value = { Class };
 
-    ghost view = { λ b. record { major = b.major; minor = 0; flags = b.flags; name = b.name; super_name = b.super_name; interfaces = b.interfaces.items; fields = b.fields; methods = b.methods; pool = b.entries } };
+    ghost view = { λ b. record { major = b.major; minor = 0; flags = b.flags; name = b.name; super_name = b.super_name; interfaces = b.interfaces.items; fields = b.fields; methods = b.methods; nest_host = None; nest_members = []; permits = None; pool = b.entries } };
 
-    ghost invariant = { λ b. (length b.entries < 65536) × IsBuilt (record { major = b.major; minor = 0; flags = b.flags; name = b.name; super_name = b.super_name; interfaces = b.interfaces.items; fields = b.fields; methods = b.methods; pool = b.entries }) };
+    ghost invariant = { λ b. (length b.entries < 65536) × IsBuilt (record { major = b.major; minor = 0; flags = b.flags; name = b.name; super_name = b.super_name; interfaces = b.interfaces.items; fields = b.fields; methods = b.methods; nest_host = None; nest_members = []; permits = None; pool = b.entries }) };
 }
 
 impl ClassBuilder {
@@ -66,7 +66,7 @@ impl ClassBuilder {
         this: &Name,
         super_name: Option<&Name>,
     ) -> Result<ClassBuilder, WriteFault>
-        requires version { (major ≡ 53) ⊎ (major ≡ 54) }
+        requires version { IsTrue (is_version major 0) }
         requires flags { IsTrue (are_class_flags flags) }
         requires name { IsTrue (names_a_class this.now) }
         requires short { IsShort this.now }
@@ -200,7 +200,7 @@ impl ClassBuilder {
     pub fn is_interface(&self) -> bool
         ensures { result ≡ is_interface self.now.flags }
     {
-        AccessFlags::from_bits_retain(self.flags).contains(AccessFlags::INTERFACE)
+        is_interface(self.flags)
     }
 
     /// Whether a field of this name and descriptor is there.
@@ -226,6 +226,7 @@ impl ClassBuilder {
         ensures memory { IsOkUnless result WriteFault.NoMemory }
     {
         let ClassBuilder {
+            alloc,
             major,
             flags,
             name,
@@ -234,7 +235,6 @@ impl ClassBuilder {
             fields,
             methods,
             entries,
-            ..
         } = self;
         Ok(ClassDecl::from_parts(
             (major, 0),
@@ -244,6 +244,11 @@ impl ClassBuilder {
             Items::from_vec(interfaces),
             Items::from_vec(fields.into_vec()),
             Items::from_vec(methods.into_vec()),
+            Nests {
+                host: None,
+                members: Items::from_vec(Vec::new(alloc)),
+                permits: None,
+            },
             Pool::from_entries(entries.into_vec()),
         ))
     }

@@ -11,6 +11,7 @@ mod fault;
 mod member_table;
 mod members;
 mod needs;
+mod nests;
 mod places;
 mod writing;
 

@@ -5,7 +5,8 @@ ghost use Rattle.std.specs.List.{AllByRecursion};
 ghost use Rattle.jl_class.specs.declared.member.FieldDecl.{FieldDecl};
 ghost use Rattle.jl_class.specs.declared.member.MethodDecl.{MethodDecl};
 ghost use Rattle.jl_reading.specs.Reading.{two, counted};
-ghost use Rattle.jl_class.specs.Spelling.{measured, member_bytes, handler_bytes, attribute_bytes, CodeFits};
+ghost use Rattle.jl_class.specs.Spelling.{member_bytes, handler_bytes, CodeFits};
+ghost use Rattle.jl_classfile.specs.Spelling.{measured, attribute_bytes};
 ghost use Rattle.jl_classw.specs.Writing.{field_member, method_member, optional, constant_attribute, code_attribute, frames_attribute, code_content, text_index, IsShortCode};
 
 use crate::fault::WriteFault;

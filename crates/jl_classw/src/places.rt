@@ -5,10 +5,12 @@ ghost use Rattle.std.specs.Option.{option_copied};
 ghost use Rattle.indexmap.specs.IndexMap.{get};
 ghost use Rattle.jl_logic.specs.Order.{is_text};
 ghost use Rattle.jl_pool.specs.Pool.{text_of, paired_text as named_text, class_named};
+ghost use Rattle.jl_optable.specs.Attributes.{name_of};
 ghost use Rattle.jl_classw.specs.Writing.{is_named, or_here, first_of, or_zero, text_index, class_index, super_index, attribute_index};
 
 use crate::fault::WriteFault;
 use indexmap::IndexMap;
+use jl_optable::AttrForm;
 use jl_pool::Pool;
 use jl_prim::{Copied, CopyEnd, Name};
 use std::alloc::Global;
@@ -106,6 +108,16 @@ impl<'a> Places<'a> {
         ensures { result ≡ attribute_index self.now (codes "StackMapTable") }
     {
         self.frames
+    }
+}
+
+impl<'a> Places<'a> {
+    /// The index of the name of the attributes of a form, and 0 where it is not there.
+    pub fn attribute(&self, form: AttrForm) -> u16
+        requires { length self.now < 65536 }
+        ensures { result ≡ attribute_index self.now (name_of form) }
+    {
+        attribute_place(self.pool, form.name())
     }
 }
 

@@ -8,10 +8,11 @@ ghost use Rattle.jl_class.specs.declared.member.MethodDecl.{MethodDecl};
 ghost use Rattle.jl_class.specs.Reading.{class_of};
 ghost use Rattle.jl_class.specs.Spelling.{IsClass, member_bytes};
 ghost use Rattle.jl_classw.specs.Writing as words;
-ghost use Rattle.jl_classw.specs.Writing.{class_index, super_index, field_member, method_member, front_bytes, names_bytes, members_bytes, file_bytes, IsShortCode, IsWritable};
+ghost use Rattle.jl_classw.specs.Writing.{class_index, super_index, field_member, method_member, front_of, names_bytes, members_bytes, file_bytes, IsShortCode, IsWritable};
 
 use crate::fault::WriteFault;
 use crate::members::{push_field, push_method};
+use crate::nests::push_nests;
 use crate::places::Places;
 use jl_class::{ClassDecl, FieldDecl, MethodDecl};
 use jl_pool::{Pool, pool_bytes, push_u16, push_u32};
@@ -22,8 +23,9 @@ const MAGIC: u32 = 0xcafe_babe;
 
 /// The class file of a class (JVMS 4.1), for one that some class file declares.
 ///
-/// It has the pool as it is, each name by the least index that has it, and of the attributes only
-/// ConstantValue, Code and StackMapTable.
+/// It has the pool as it is, each name by the least index that has it, and of the attributes only those
+/// that say what the class is: ConstantValue, Code, StackMapTable, NestHost, NestMembers and
+/// PermittedSubclasses.
 pub fn write_class(alloc: Global, c: &ClassDecl) -> Result<Vec<u8>, WriteFault>
     ensures exact { IfOk result (λ bytes. bytes.items ≡ file_bytes c.now) }
     // What is written declares the same class, and is read so.
@@ -53,7 +55,7 @@ fn written(alloc: Global, c: &ClassDecl, pool: &Pool) -> Result<Vec<u8>, WriteFa
 
 /// Writes magic and version.
 fn push_front(bytes: &mut Vec<u8>, c: &ClassDecl) -> Result<(), WriteFault>
-    ensures bytes { OnOk result (bytes.new.items ≡ bytes.old.items ++ front_bytes c.now) }
+    ensures bytes { OnOk result (bytes.new.items ≡ bytes.old.items ++ front_of c.now) }
     ensures memory { IsOkUnless result WriteFault.NoMemory }
 {
     let (major, minor) = c.version();
@@ -82,10 +84,10 @@ fn push_names(bytes: &mut Vec<u8>, places: &Places, c: &ClassDecl) -> Result<(),
     push_u16(bytes, c.flags())?;
     push_u16(bytes, places.class(c.name()))?;
     push_u16(bytes, places.super_class(c.super_name()))?;
-    push_interfaces(bytes, places, c.interfaces())
+    push_classes(bytes, places, c.interfaces())
 }
 
-/// Writes fields, methods and no attributes.
+/// Writes fields, methods and attributes.
 fn push_members(bytes: &mut Vec<u8>, places: &Places, c: &ClassDecl) -> Result<(), WriteFault>
     requires { IsWritable places.now c.now }
     ensures bytes { OnOk result (bytes.new.items ≡ bytes.old.items ++ members_bytes places.now c.now) }
@@ -93,11 +95,11 @@ fn push_members(bytes: &mut Vec<u8>, places: &Places, c: &ClassDecl) -> Result<(
 {
     push_fields(bytes, places, c.fields())?;
     push_methods(bytes, places, c.methods())?;
-    push_u16(bytes, 0)?;
-    Ok(())
+    push_nests(bytes, places, c)
 }
 
-fn push_interfaces(bytes: &mut Vec<u8>, places: &Places, names: &[Name]) -> Result<(), WriteFault>
+/// Writes a count and the indices of classes.
+pub fn push_classes(bytes: &mut Vec<u8>, places: &Places, names: &[Name]) -> Result<(), WriteFault>
     requires { length names.now < 65536 }
     ensures bytes { OnOk result (bytes.new.items ≡ bytes.old.items ++ counted (λ name. two (class_index places.now name)) names.now) }
     ensures memory { IsOkUnless result WriteFault.NoMemory }

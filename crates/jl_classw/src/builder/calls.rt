@@ -5,6 +5,7 @@ ghost use Rattle.jl_logic.specs.Answers.{Gives};
 ghost use Rattle.jl_names.specs.Names.{names_a_class, names_a_field};
 ghost use Rattle.jl_pool.specs.Builder.{IsShort};
 ghost use Rattle.jl_class.specs.Meaning.{field_key, method_key, is_member_among, are_class_flags, are_field_flags, are_method_flags, is_interface, may_extend, names_method_with, describes_a_field, describes_method_with, has_code};
+ghost use Rattle.jl_classfile.specs.Front.{is_version};
 ghost use Rattle.jl_classw.specs.Faults.{told};
 ghost use Rattle.jl_classw.specs.Built.{IsSuper, MayHave, IsSmall};
 ghost use Rattle.jl_classw.specs.Building.{unless_empty, new_class, with_interface, with_field, with_method};
@@ -30,7 +31,7 @@ impl ClassBuilder {
         super_name: &[u8],
     ) -> Result<ClassBuilder, WriteFault>
         requires utf8 { IsUtf8 this.now × IsUtf8 super_name.now }
-        requires version { (major ≡ 53) ⊎ (major ≡ 54) }
+        requires version { IsTrue (is_version major 0) }
         requires flags { IsTrue (are_class_flags flags) }
         requires name { IsTrue (names_a_class this.now) }
         requires short { IsShort this.now }

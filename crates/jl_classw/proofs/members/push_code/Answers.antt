@@ -1,6 +1,6 @@
 use Rattle.std.proofs.Common.{◌++◌, Some}
 use Rattle.jl_reading.specs.Reading.{two, counted}
-use Rattle.jl_class.specs.Spelling.{attribute_bytes}
+use Rattle.jl_classfile.specs.Spelling.{attribute_bytes}
 use Rattle.jl_classw.specs.Writing.{code_attribute, optional}
 use Rattle.jl_classw.proofs.BytesLaws.{one_attribute, on_ok_as}
 use Rattle.jl_classw.proofs.members.push_code.Goals as goal
