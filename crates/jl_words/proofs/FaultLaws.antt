@@ -45,7 +45,7 @@ Told k all faults.NoMemory = ⊥
 abbrev Agree : ℕ → List (List ℕ) → List (List ℕ) → Type 0
 Agree k ws us = (i : ℕ) (w : List ℕ) → i < k → slice_get ws i ≡ Some w → slice_get us i ≡ Some w
 
-err_is : {X : Type 0} (e f : WordFault) → ◌≡◌ {A = Result X WordFault} (Err e) (Err f) → e ≡ f
+pub err_is : {X : Type 0} (e f : WordFault) → ◌≡◌ {A = Result X WordFault} (Err e) (Err f) → e ≡ f
 err_is e f q = cc
 
 err_same : {X Y : Type 0} (e f : WordFault) → ◌≡◌ {A = Result X WordFault} (Err e) (Err f) → ◌≡◌ {A = Result Y WordFault} (Err e) (Err f)
@@ -53,21 +53,18 @@ err_same e f q = ap (λ t. Err t) (err_is e f q)
 
 -- ---- values
 
-Placed : ℕ → WordFault → Type 0
+abbrev pub Placed : ℕ → WordFault → Type 0
 Placed at f = (f ≡ faults.BadTarget at) ⊎ (f ≡ faults.BadNumber at)
 
 fact_placed : (o : Option Added) (at : ℕ) (given : Given) (f : WordFault) → with_added o at given ≡ Err f → Placed at f
-unfolding Placed
 fact_placed None at given f e = inl (sym (err_is (faults.BadTarget at) f e))
 fact_placed (Some a) at given f e = absurd (err_ok _ _ (sym e))
 
 steps_placed : (o : Option ℕ) (at : ℕ) (given : Given) (f : WordFault) → with_steps o at given ≡ Err f → Placed at f
-unfolding Placed
 steps_placed None at given f e = inr (sym (err_is (faults.BadNumber at) f e))
 steps_placed (Some a) at given f e = absurd (err_ok _ _ (sym e))
 
-value_placed : (s : Setting) (value : List ℕ) (at : ℕ) (given : Given) (f : WordFault) → with_value s value at given ≡ Err f → Placed at f
-unfolding Placed
+pub value_placed : (s : Setting) (value : List ℕ) (at : ℕ) (given : Given) (f : WordFault) → with_value s value at given ≡ Err f → Placed at f
 value_placed settings.ModulePath value at given f e = absurd (err_ok _ _ (sym e))
 value_placed settings.AddModules value at given f e = by (list_all names_a_module (listed value)) e
   where
@@ -81,14 +78,13 @@ value_placed settings.Steps value at given f e = steps_placed (number_of value) 
 value_placed settings.Report value at given f e = absurd (err_ok _ _ (sym e))
 
 value_told : (s : Setting) (value : List ℕ) (at k all : ℕ) (given : Given) (f : WordFault) → Told k all f → with_value s value at given ≡ Err f → at < k
-unfolding Placed
 value_told s value at k all given f told e = by (value_placed s value at given f e)
   where
     by : (f ≡ faults.BadTarget at) ⊎ (f ≡ faults.BadNumber at) → at < k
     by (inl q) = subst (Told k all) q told
     by (inr q) = subst (Told k all) q told
 
-and_err : (r : Result Given WordFault) (n : ℕ) (f : WordFault) → and_then r n ≡ Err f → r ≡ Err f
+pub and_err : (r : Result Given WordFault) (n : ℕ) (f : WordFault) → and_then r n ≡ Err f → r ≡ Err f
 and_err (Ok g) n f e = absurd (err_ok _ _ (sym e))
 and_err (Err d) n f e = err_same d f e
 
@@ -155,10 +151,10 @@ use_ok (Some (s, v)) ws us given at k x agree far e = by (is_given s given) refl
 
 -- ---- operands
 
-no_some : {X : Type 0} (x : X) → None ≡ Some x → ⊥
+pub no_some : {X : Type 0} (x : X) → None ≡ Some x → ⊥
 no_some x e = true≢false (sym (ap is_some e))
 
-word_there : (ws : List (List ℕ)) (i : ℕ) → i < length ws → (w : List ℕ) × (slice_get ws i ≡ Some w)
+pub word_there : (ws : List (List ℕ)) (i : ℕ) → i < length ws → (w : List ℕ) × (slice_get ws i ≡ Some w)
 word_there ws i less = by (slice_get ws i) refl ws i less
   where
     by : (o : Option (List ℕ)) → slice_get ws i ≡ o → (vs : List (List ℕ)) (j : ℕ) → j < length vs → (w : List ℕ) × (slice_get vs j ≡ Some w)
@@ -325,20 +321,20 @@ operands_err verbs.Sample ws given at k f told e =
 
 -- ---- options, one after the other
 
-abbrev Whole : ℕ → Verb → List (List ℕ) → Given → ℕ → Result Command WordFault
+abbrev pub Whole : ℕ → Verb → List (List ℕ) → Given → ℕ → Result Command WordFault
 Whole n verb ws given at = options_from n verb ws given at >>= operands_at verb ws
 
-stopped : (n : ℕ) (verb : Verb) (ws : List (List ℕ)) (given : Given) (at : ℕ) → is_option (slice_get ws at) ≡ false → Whole n verb ws given at ≡ operands_at verb ws (given, at)
+pub stopped : (n : ℕ) (verb : Verb) (ws : List (List ℕ)) (given : Given) (at : ℕ) → is_option (slice_get ws at) ≡ false → Whole n verb ws given at ≡ operands_at verb ws (given, at)
 stopped n verb ws given at stop = ap (λ r. r >>= operands_at verb ws) (options_stop n verb ws given at stop)
 
-spent : (verb : Verb) (ws : List (List ℕ)) (given : Given) (at : ℕ) → Whole zero verb ws given at ≡ operands_at verb ws (given, at)
+pub spent : (verb : Verb) (ws : List (List ℕ)) (given : Given) (at : ℕ) → Whole zero verb ws given at ≡ operands_at verb ws (given, at)
 unfolding options_from
 spent verb ws given at = refl
 
-went : (n : ℕ) (verb : Verb) (ws : List (List ℕ)) (given : Given) (at : ℕ) → is_option (slice_get ws at) ≡ true → (r : Result (Given × ℕ) WordFault) → used verb ws given at ≡ r → Whole (suc n) verb ws given at ≡ ((r >>= λ x. options_from n verb ws x.0 x.1) >>= operands_at verb ws)
+pub went : (n : ℕ) (verb : Verb) (ws : List (List ℕ)) (given : Given) (at : ℕ) → is_option (slice_get ws at) ≡ true → (r : Result (Given × ℕ) WordFault) → used verb ws given at ≡ r → Whole (suc n) verb ws given at ≡ ((r >>= λ x. options_from n verb ws x.0 x.1) >>= operands_at verb ws)
 went n verb ws given at go r is = ap (λ t. t >>= operands_at verb ws) (step n verb ws given at go ∙ ap (λ t. t >>= λ x. options_from n verb ws x.0 x.1) is)
 
-option_word : (ws : List (List ℕ)) (at : ℕ) → is_option (slice_get ws at) ≡ true → (w : List ℕ) × (slice_get ws at ≡ Some w)
+pub option_word : (ws : List (List ℕ)) (at : ℕ) → is_option (slice_get ws at) ≡ true → (w : List ℕ) × (slice_get ws at ≡ Some w)
 option_word ws at go = by (slice_get ws at) refl
   where
     by : (o : Option (List ℕ)) → slice_get ws at ≡ o → (w : List ℕ) × (slice_get ws at ≡ Some w)
@@ -432,7 +428,7 @@ agree_all k (v ∷ ws) rest zero w near e = e
 agree_all zero (v ∷ ws) rest (suc i) w near e = absurd (omega (arith, near))
 agree_all (suc k) (v ∷ ws) rest (suc i) w near e = agree_all k ws rest i w (omega (arith, near)) e
 
-of_front : (n : ℕ) (ws : List (List ℕ)) (i : ℕ) (w : List ℕ) → slice_get (take n ws) i ≡ Some w → slice_get ws i ≡ Some w
+pub of_front : (n : ℕ) (ws : List (List ℕ)) (i : ℕ) (w : List ℕ) → slice_get (take n ws) i ≡ Some w → slice_get ws i ≡ Some w
 of_front zero ws i w e = absurd (no_some w e)
 of_front (suc n) [] i w e = e
 of_front (suc n) (v ∷ ws) zero w e = e
@@ -468,7 +464,7 @@ fewer_told k few all faults.NotBuilt le told = told
 fewer_told k few all faults.NoMemory le told = told
 
 pub no_line_begins : NoLineBegins
-no_line_begins words longer f c e is front line = by (nat_le (length words) most_words) refl
+no_line_begins words f e is longer c front line = by (nat_le (length words) most_words) refl
   where
     t : Tells words longer f
     t = tells words longer f is front

@@ -167,7 +167,7 @@ tested word t s rest later e = by (is_text word (verb_text t)) refl e
     by true is e = same_text word (verb_text t) is ∙ ap verb_text (same_Some t s e)
     by false is e = later e
 
-verb_is : (word : List ℕ) (verb : Verb) → verb_of word ≡ Some verb → word ≡ verb_text verb
+pub verb_is : (word : List ℕ) (verb : Verb) → verb_of word ≡ Some verb → word ≡ verb_text verb
 verb_is word verb = tested word verbs.Resolve verb _ (tested word verbs.Run verb _ (tested word verbs.Sample verb None (λ e. absurd (none-some verb e))))
 
 operands : (rest : List (List ℕ)) → is_option (slice_get rest 0) ≡ false → 1 ≤ length rest → AreOperands rest
@@ -178,7 +178,7 @@ stops : (rest : List (List ℕ)) → AreOperands rest → (is_option (slice_get 
 stops [] are = absurd are
 stops (w ∷ ws) are = (are, omega arith)
 
-no_uses : (uses : List Use) (given : Given) → Ready verbs.Sample uses given → uses ≡ []
+pub no_uses : (uses : List Use) (given : Given) → Ready verbs.Sample uses given → uses ≡ []
 no_uses [] given ready = refl
 no_uses (u ∷ us) given ready = absurd (true≢false (sym ready.0.is.has))
 
@@ -243,7 +243,7 @@ module _ (w : List ℕ) (ws : List (List ℕ)) (after : Given) (next : ℕ) (c :
   verb_line verbs.Run u is e = run_line u is e
   verb_line verbs.Sample u is e = sample_line u is e
 
-line_found : (words : List (List ℕ)) (c : Command) → line_read words ≡ Ok c → IsCommand words c
+pub line_found : (words : List (List ℕ)) (c : Command) → line_read words ≡ Ok c → IsCommand words c
 unfolding line_read
 line_found [] c e = absurd (err_ok _ _ e)
 line_found (w ∷ ws) c e = by (verb_of w) refl e
@@ -256,7 +256,7 @@ line_found (w ∷ ws) c e = by (verb_of w) refl e
 
 -- ---- what is of the form is read
 
-line_with : (verb : Verb) (ws : List (List ℕ)) → line_read (verb_text verb ∷ ws) ≡ (options_from (length (verb_text verb ∷ ws)) verb (verb_text verb ∷ ws) nothing 1 >>= operands_at verb (verb_text verb ∷ ws))
+pub line_with : (verb : Verb) (ws : List (List ℕ)) → line_read (verb_text verb ∷ ws) ≡ (options_from (length (verb_text verb ∷ ws)) verb (verb_text verb ∷ ws) nothing 1 >>= operands_at verb (verb_text verb ∷ ws))
 unfolding line_read
 line_with verb ws = rw (verb_found verb) refl
 

@@ -8,4 +8,6 @@ mod GivenLaws
 mod LineLaws
 mod FoundLaws
 mod FaultLaws
+mod Complete
+mod FirstLaws
 mod Rows

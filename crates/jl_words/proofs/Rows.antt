@@ -1,11 +1,13 @@
 -- Worked rows: what some command lines are.
-use Rattle.std.proofs.Common.{◌≡◌, [], ◌∷◌, true, false, None, Some, Ok, Err, refl}
+use Rattle.std.proofs.Common.{◌≡◌, inl, inr, [], ◌∷◌, true, false, None, Some, Ok, Err, refl, arith}
 use Rattle.std.specs.Prelude.{codes}
 use Rattle.jl_names.specs.Names.{parts}
 use Rattle.jl_words.specs.declared.command.Added.TheVariants.{Reads, Exports}
 use Rattle.jl_words.specs.declared.command.Command.TheVariants.{Resolve, Run, Sample}
 use Rattle.jl_words.specs.declared.fault.WordFault.TheVariants.{NoCommand, Missing, Repeated, BadNumber, BadTarget, UnknownWord}
 use Rattle.jl_words.specs.Values.{split, path_parts, number_of}
+use Rattle.jl_words.proofs.ValueLaws.{number_is}
+use Rattle.jl_words.specs.Laws.{Begins, IsMet}
 use Rattle.jl_words.specs.Reading.{parted, parted_last, options_from, resolve_at, run_at, sample_at, line_read, words_read}
 
 no_words : words_read [] ≡ Err NoCommand
@@ -57,3 +59,16 @@ past_the_greatest = refl
 roots_from_options : words_read (codes "resolve" ∷ codes "--add-modules" ∷ codes "a,b" ∷ codes "--add-modules=c" ∷ codes "r" ∷ codes "-s" ∷ []) ≡ Ok (Resolve [] (codes "a" ∷ codes "b" ∷ codes "c" ∷ []) (codes "r" ∷ codes "-s" ∷ []))
 unfolding words_read line_read options_from resolve_at parted split
 roots_from_options = refl
+
+-- what begins a command, and where a fault is met
+bound_to_come : Begins (codes "sample" ∷ codes "3" ∷ [])
+bound_to_come = record { rest = codes "10" ∷ []; command = Sample 3 10; few = omega arith; is = record { number = codes "3"; limit = codes "10"; text = refl; counts = number_is (codes "3") 3 refl; few = (omega arith, omega arith); bounds = number_is (codes "10") 10 refl } }
+
+second_use : IsMet (codes "run" ∷ codes "--steps" ∷ codes "1" ∷ codes "--steps" ∷ codes "2" ∷ codes "a" ∷ []) (Repeated (codes "--steps")) 3
+second_use = (codes "--steps", refl, inl refl)
+
+second_joined : IsMet (codes "run" ∷ codes "--steps" ∷ codes "1" ∷ codes "--steps=2" ∷ codes "a" ∷ []) (Repeated (codes "--steps")) 3
+second_joined = (codes "--steps=2", refl, inr (codes "2", refl))
+
+behind_the_last : IsMet (codes "resolve" ∷ []) (Missing (codes "ROOT")) 1
+behind_the_last = refl

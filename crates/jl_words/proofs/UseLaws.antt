@@ -1,11 +1,12 @@
 -- Options, and the uses that a well-formed line has.
-use Rattle.std.proofs.Common.{◌≡◌, ℕ, zero, suc, ◌+◌, ◌<◌, List, [], ◌∷◌, ◌++◌, drop, Bool, true, false, cond, ◌&&◌, Option, None, Some, Result, Ok, Err, refl, sym, ap, subst, ◌∙◌, arith}
+use Rattle.std.proofs.Common.{◌≡◌, ℕ, zero, suc, ◌+◌, ◌≤◌, ◌<◌, List, [], ◌∷◌, ◌++◌, length, drop, Bool, true, false, cond, ◌&&◌, Option, None, Some, Result, Ok, Err, refl, sym, ap, subst, ◌∙◌, arith}
 use Rattle.std.specs.Prelude.{is_some, is_ok, slice_get}
 use Rattle.std.specs.List.{list_all}
 use Rattle.std.specs.Cmp.Lexicographic.{bytes_decides}
 use Rattle.std.proofs.Math.Bool.{and-true, and-false}
 use Rattle.std.proofs.lemmas.Bool.{true≢false, and_parts, not-true}
-use Rattle.std.proofs.lemmas.Option.{none-some, same_Some}
+use Rattle.std.proofs.lemmas.List.{length-drop}
+use Rattle.std.proofs.lemmas.Option.{none-some, same_Some, slice_get_within}
 use Rattle.jl_logic.specs.Order.{is_text}
 use Rattle.jl_reading.proofs.Steps.{ok_is}
 use Rattle.jl_prim.specs.Names.{names_a_module}
@@ -165,7 +166,7 @@ named_whole verb word e = rw e refl
 named_cut : (verb : Verb) (word : List ℕ) (x : List ℕ × List ℕ) → parted 61 word ≡ Some x → named_by verb word ≡ fitting verb (setting_of x.0) (Some x.1)
 named_cut verb word x e = rw e refl
 
-named_is : (verb : Verb) (word : List ℕ) (s : Setting) (v : Option (List ℕ)) → named_by verb word ≡ Some (s, v) → Named verb word s v
+pub named_is : (verb : Verb) (word : List ℕ) (s : Setting) (v : Option (List ℕ)) → named_by verb word ≡ Some (s, v) → Named verb word s v
 named_is verb word s v e = by (parted 61 word) refl
   where
     by : (r : Option (List ℕ × List ℕ)) → parted 61 word ≡ r → Named verb word s v
@@ -221,6 +222,7 @@ pub record Used (verb : Verb) (words : List (List ℕ)) (given after : Given) (a
   pub adds : Adds verb it given after
   pub text : drop at words ≡ use_words it ++ drop next words
   pub further : at < next
+  pub within : next ≤ length words
 
 pub and_then_is : (r : Result Given WordFault) (n next : ℕ) (after : Given) → and_then r n ≡ Ok (after, next) → (r ≡ Ok after) × (n ≡ next)
 and_then_is (Err f) n next after e = absurd (err_ok _ _ e)
@@ -247,6 +249,9 @@ apart_use : (u : Use) → is_flag u.setting ≡ false → u.joined ≡ false →
 apart_use u flag is = rw (flag, is) refl
 
 module _ (verb : Verb) (words : List (List ℕ)) (given after : Given) (at next : ℕ) (word : List ℕ) (s : Setting) (here : drop at words ≡ word ∷ drop (suc at) words) (first : is_given s given ≡ false) where
+  one_there : (n : ℕ) → at + 1 ≡ n → n ≤ length words
+  one_there n e = let long = ap length here in omega (arith, e, long, length-drop at words)
+
   used_joined : (value : List ℕ) → Named verb word s (Some value) → and_then (with_value s value at given) (at + 1) ≡ Ok (after, next) → Used verb words given after at next
   used_joined value named e =
       let flag : is_flag s ≡ false = sym (and-true (is_flag s)) ∙ named.flag in
@@ -258,6 +263,7 @@ module _ (verb : Verb) (words : List (List ℕ)) (given after : Given) (at next 
         adds = record { is = record { has = named.has; flag = λ f. absurd (true≢false (sym f ∙ flag)) }; first = first; good = taken.0; gives = taken.1 };
         text = here ∙ ap (λ w. w ∷ drop (suc at) words) named.text ∙ ap (λ n. (setting_text s ++ 61 ∷ value) ∷ drop n words) on ∙ ap (λ l. l ++ drop next words) (sym (joined_use (record { setting = s; value = value; joined = true }) flag refl));
         further = omega (arith, parts.1);
+        within = one_there next parts.1;
       }
 
   used_flag : is_flag s ≡ true → Named verb word s None → and_then (with_value s [] at given) (at + 1) ≡ Ok (after, next) → Used verb words given after at next
@@ -270,6 +276,7 @@ module _ (verb : Verb) (words : List (List ℕ)) (given after : Given) (at next 
         adds = record { is = record { has = named.has; flag = λ f. (refl, refl) }; first = first; good = taken.0; gives = taken.1 };
         text = here ∙ ap (λ w. w ∷ drop (suc at) words) named.text ∙ ap (λ n. setting_text s ∷ drop n words) on ∙ ap (λ l. l ++ drop next words) (sym (flag_use (record { setting = s; value = []; joined = false }) flag));
         further = omega (arith, parts.1);
+        within = one_there next parts.1;
       }
 
   used_apart : (value : List ℕ) → is_flag s ≡ false → slice_get words (at + 1) ≡ Some value → Named verb word s None → and_then (with_value s value (at + 1) given) (at + 2) ≡ Ok (after, next) → Used verb words given after at next
@@ -285,6 +292,7 @@ module _ (verb : Verb) (words : List (List ℕ)) (given after : Given) (at next 
         adds = record { is = record { has = named.has; flag = λ f. absurd (true≢false (sym f ∙ flag)) }; first = first; good = taken.0; gives = taken.1 };
         text = here ∙ ap (λ w. w ∷ drop (suc at) words) named.text ∙ ap (λ l. setting_text s ∷ l) more ∙ ap (λ l. l ++ drop next words) (sym (apart_use (record { setting = s; value = value; joined = false }) flag refl));
         further = omega (arith, parts.1);
+        within = let less = slice_get_within words (at + 1) value second in omega (arith, less, parts.1);
       }
 
   -- an option that was read is a use

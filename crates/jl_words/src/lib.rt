@@ -14,5 +14,5 @@ mod texts;
 
 pub use command::{Added, Command, RunWords};
 pub use fault::WordFault;
-pub use law::{no_line, no_line_begins};
+pub use law::{first_fault, line_begins, no_line, no_line_begins};
 pub use reading::read_words;
