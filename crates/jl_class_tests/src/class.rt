@@ -35,7 +35,7 @@ fn outcome(alloc: Global, file: &[u8]) -> Result<String, Fail> {
 }
 
 /// Tries each row on a file: its edits, and what comes of reading.
-fn all_come(alloc: Global, lines: &[&str], rows: &[&str]) -> Result<(), Fail> {
+pub fn all_come(alloc: Global, lines: &[&str], rows: &[&str]) -> Result<(), Fail> {
     let file = bytes_of_lines(alloc, lines)?;
     for row in rows {
         let (edits, want) = row.split_once(" -> ").ok_or("a row")?;

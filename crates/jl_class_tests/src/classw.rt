@@ -5,6 +5,7 @@ ghost use Rattle.jl_pool.specs.Builder.{IsShort};
 
 use crate::class::{FILLED, SMALLEST};
 use jl_class::{ClassDecl, CodeBytes, read_class};
+use jl_classfile::is_version;
 use jl_classw::{
     ClassBuilder, Constant, NewEntry, WriteFault, are_class_flags, are_field_flags,
     are_method_flags, describes_a_field, describes_method, has_code, is_short, is_small,
@@ -38,7 +39,7 @@ fn begun(
 ) -> Result<Option<ClassBuilder>, Fail> {
     let name = named(alloc, this)?;
     let above = named(alloc, above)?;
-    if (major != 53 && major != 54)
+    if !is_version(major, 0)
         || !is_class_name(name.as_bytes())
         || !is_superclass(alloc, &above)?
         || !are_class_flags(flags)
@@ -213,7 +214,7 @@ fn all_taken(alloc: Global, b: &mut ClassBuilder, rows: &[&str]) -> Result<(), F
 }
 
 /// Whether bytes are read as a class that is shown as this one.
-fn is_read_so(alloc: Global, bytes: &[u8], class: &ClassDecl) -> Result<bool, Fail> {
+pub fn is_read_so(alloc: Global, bytes: &[u8], class: &ClassDecl) -> Result<bool, Fail> {
     match read_class(alloc, bytes) {
         Ok(read) => Ok(format!(in alloc; "{read:?}")? == format!(in alloc; "{class:?}")?),
         Err(_) => Ok(false),
@@ -281,7 +282,9 @@ fn classes_begin(rt: HostRuntime) -> Result<(), Fail> {
         (53, 0x21, "p/A", "java/lang/Object", true),
         (54, 0x600, "p/A", "java/lang/Object", true),
         (53, 0x21, "java/lang/Object", "", true),
+        (61, 0x21, "p/A", "java/lang/Object", true),
         (52, 0x21, "p/A", "java/lang/Object", false),
+        (62, 0x21, "p/A", "java/lang/Object", false),
         (53, 0x200, "p/A", "java/lang/Object", false),
         (53, 0x410, "p/A", "java/lang/Object", false),
         (53, 0x8000, "p/A", "java/lang/Object", false),

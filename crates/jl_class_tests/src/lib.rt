@@ -5,3 +5,5 @@
 mod class;
 #[cfg(test)]
 mod classw;
+#[cfg(test)]
+mod nests;
