@@ -1,0 +1,10 @@
+pub mod Frames
+pub mod Heap
+pub mod Kept
+pub mod Laws
+pub mod Objects
+pub mod Placing
+pub mod Stacking
+pub mod Statics
+pub mod Stores
+pub mod Values
