@@ -2,6 +2,7 @@ pub mod AttributeLaws
 pub mod ContentLaws
 pub mod FileLaws
 pub mod MemberLaws
+pub mod MemberRights
 pub mod MethodLaws
 pub mod NestContents
 pub mod NestLaws

@@ -114,6 +114,33 @@ pub record IsMethod (pool : List Entry) (m : Member) (d : MethodDecl) : Type 0 w
   pub code : AtMostOne (IsCode pool) (contents pool names_code m.attributes) d.code
   pub has : is_some d.code ≡ has_code d.flags
 
+-- ---- what reading has shown of members
+
+-- the constant of a field is one that sets it
+abbrev pub IsSet : ℕ → List ℕ → List Entry → Option ℕ → Type 0
+IsSet flags desc pool None = ⊤
+IsSet flags desc pool (Some i) = IsTrue (sets_field flags desc pool i)
+
+-- a field of a class or of an interface is right in itself
+pub record IsRightField (in_interface : Bool) (pool : List Entry) (f : FieldDecl) : Type 0 where
+  pub flagged : IsTrue (are_field_flags in_interface f.flags)
+  pub named : IsTrue (names_a_field f.name)
+  pub described : IsTrue (describes_a_field f.desc)
+  pub constant : IsSet f.flags f.desc pool f.constant
+
+-- the numbers of code fit their bytes
+abbrev pub FitsWhereThere : Option CodeBytes → Type 0
+FitsWhereThere None = ⊤
+FitsWhereThere (Some c) = CodeFits c
+
+-- a method is right in itself, and has code exactly where it is neither native nor abstract
+pub record IsRightMethod (d : MethodDecl) : Type 0 where
+  pub flagged : IsTrue (are_method_flags d.flags)
+  pub named : IsTrue (names_method_with d.flags d.name)
+  pub described : IsTrue (describes_method_with d.name d.desc)
+  pub has : is_some d.code ≡ has_code d.flags
+  pub fits : FitsWhereThere d.code
+
 -- ---- attributes of a class (JVMS 4.7.28 to 4.7.31)
 
 -- a component of a record (JVMS 4.7.30)

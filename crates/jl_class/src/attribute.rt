@@ -19,7 +19,7 @@ use std::alloc::Global;
 
 /// The attributes of a site, and what each that is read means.
 pub trait Site<V>: Sized {
-    ghost use Rattle.std.specs.Prelude.{◌≡◌, ℕ, List, Option, Result, Bool};
+    ghost use Rattle.std.specs.Prelude.{◌≡◌, ℕ, List, Option, Some, Result, Bool};
     ghost use Rattle.jl_logic.specs.Answers.{Gives};
     ghost use Rattle.jl_optable.specs.declared.attributes.AttrForm.{AttrForm};
     ghost use Rattle.jl_class.specs.declared.fault.ClassFault.{ClassFault};
@@ -43,7 +43,9 @@ pub trait Site<V>: Sized {
 
     /// The fault of what is not whole at the second place, in the attribute at the first.
     fn cut(&self, attribute: usize, at: usize) -> ClassFault
-        ensures { result ≡ cut_at self.now attribute at };
+        ensures is { result ≡ cut_at self.now attribute at }
+        // Want of memory is no answer.
+        ensures told { told result ≡ Some result };
 
     /// What a content means in the attribute at a place.
     fn meaning(

@@ -1,7 +1,10 @@
 //! Classes and interfaces.
 
-ghost use Rattle.std.specs.Prelude.{◌≡◌, ◌&&◌, ℕ, List, position};
-ghost use Rattle.jl_class.specs.Spelling.{IsClass};
+ghost use Rattle.std.specs.Prelude.{◌≡◌, ◌&&◌, ℕ, List, map, position};
+ghost use Rattle.std.specs.List.{AllByRecursion};
+ghost use Rattle.jl_logic.specs.Lists.{AreDistinct};
+ghost use Rattle.jl_class.specs.Meaning.{is_interface, field_key, method_key};
+ghost use Rattle.jl_class.specs.Spelling.{IsClass, IsRightField, IsRightMethod};
 ghost use Rattle.std.specs.Option.{option_copied};
 ghost use Rattle.jl_logic.specs.Order.{is_text};
 ghost use Rattle.jl_class.specs.declared.member.FieldDecl.{FieldDecl};
@@ -119,14 +122,20 @@ impl ClassDecl {
 
     /// The fields, in order.
     pub fn fields(&self) -> &[FieldDecl]
-        ensures { result.now ≡ self.now.fields }
+        ensures fields { result.now ≡ self.now.fields }
+        // Each is right in itself, and no two have one name and descriptor.
+        ensures right { AllByRecursion (IsRightField (is_interface self.now.flags) self.now.pool) self.now.fields }
+        ensures apart { AreDistinct (map field_key self.now.fields) }
     {
         self.fields.as_slice()
     }
 
     /// The methods, in order.
     pub fn methods(&self) -> &[MethodDecl]
-        ensures { result.now ≡ self.now.methods }
+        ensures methods { result.now ≡ self.now.methods }
+        // Each is right in itself, and no two have one name and descriptor.
+        ensures right { AllByRecursion IsRightMethod self.now.methods }
+        ensures apart { AreDistinct (map method_key self.now.methods) }
     {
         self.methods.as_slice()
     }

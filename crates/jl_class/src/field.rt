@@ -1,6 +1,6 @@
 //! Fields (JVMS 4.5) and their constants (JVMS 4.7.2).
 
-ghost use Rattle.std.specs.Prelude.{◌≡◌, [], map, IfOk, false};
+ghost use Rattle.std.specs.Prelude.{◌≡◌, [], map, IfOk, Some, false};
 ghost use Rattle.jl_reading.specs.Reading.{each_at};
 ghost use Rattle.jl_logic.specs.Answers.{Gives};
 ghost use Rattle.jl_classfile.specs.Places.{Reads};
@@ -191,9 +191,17 @@ fn constant_of(
 fn sets_field(flags: u16, desc: &Name, pool: &Pool, index: u16) -> bool
     ensures { result ≡ meaning.sets_field flags desc.now pool.now index }
 {
-    let Some(tag) = pool.tag(index) else {
-        return false;
-    };
+    match pool.tag(index) {
+        Some(tag) => may_be_constant(flags, desc, tag),
+        None => false,
+    }
+}
+
+/// Whether a field with these flags and this descriptor may have an entry with this tag for its constant.
+/// Only a static field is set to it, so only there its type counts (JVMS 4.7.2).
+pub fn may_be_constant(flags: u16, desc: &Name, tag: u8) -> bool
+    ensures { result ≡ meaning.may_be_constant flags desc.now (Some tag) }
+{
     if is_static(flags) {
         matches!(constant_tag(desc.as_str()), Some(wanted) if wanted == tag)
     } else {

@@ -66,19 +66,22 @@ fn has_two_accesses(flags: u16) -> bool
         || (is_private(flags) && is_protected(flags))
 }
 
-fn is_public(flags: u16) -> bool
+/// Whether a class or a member is public.
+pub fn is_public(flags: u16) -> bool
     ensures { result ≡ meaning.is_public flags }
 {
     AccessFlags::from_bits_retain(flags).contains(AccessFlags::PUBLIC)
 }
 
-fn is_private(flags: u16) -> bool
+/// Whether a member is private.
+pub fn is_private(flags: u16) -> bool
     ensures { result ≡ meaning.is_private flags }
 {
     AccessFlags::from_bits_retain(flags).contains(AccessFlags::PRIVATE)
 }
 
-fn is_protected(flags: u16) -> bool
+/// Whether a member is protected.
+pub fn is_protected(flags: u16) -> bool
     ensures { result ≡ meaning.is_protected flags }
 {
     AccessFlags::from_bits_retain(flags).contains(AccessFlags::PROTECTED)

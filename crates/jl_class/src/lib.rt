@@ -18,10 +18,12 @@ mod table;
 
 pub use class::ClassDecl;
 pub use fault::ClassFault;
+pub use field::may_be_constant;
 pub use flags::{
     are_class_flags, are_field_flags, are_method_flags, has_code, is_abstract, is_final,
-    is_interface, is_native, is_static,
+    is_interface, is_native, is_private, is_protected, is_public, is_static,
 };
 pub use member::{CodeBytes, FieldDecl, MemberKey, MethodDecl};
+pub use names::names_method;
 pub use nests::Nests;
 pub use reading::read_class;

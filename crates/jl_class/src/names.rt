@@ -118,8 +118,9 @@ pub fn method_name_at<'a, 'p>(
     }
 }
 
-/// Whether a method with these flags may have the name.
-fn names_method(flags: u16, name: &Name) -> bool
+/// Whether a method with these flags may have the name: `<init>` is of an instance and not abstract,
+/// `<clinit>` is static (JVMS 2.9, 4.2.2).
+pub fn names_method(flags: u16, name: &Name) -> bool
     ensures { result ≡ names_method_with flags name.now }
 {
     is_method_name(name.as_bytes())

@@ -1,6 +1,6 @@
 //! The conditions of a builder's calls, as tests that its callers can make.
 
-ghost use Rattle.std.specs.Prelude.{◌≡◌, ◌↔◌, IfOk, IsTrue, IsUtf8, Ok, Some, None};
+ghost use Rattle.std.specs.Prelude.{◌≡◌, ◌↔◌, IfOk, IsOkUnless, IsTrue, IsUtf8, Ok, Some, None};
 ghost use Rattle.jl_logic.specs.Answers.{Gives};
 ghost use Rattle.jl_pool.specs.Builder.{IsShort};
 ghost use Rattle.jl_class.specs.Meaning as meaning;
@@ -9,12 +9,9 @@ ghost use Rattle.jl_classw.specs.Built.{AreShortFrames, IsSmall, IsSuper};
 ghost use Rattle.jl_classw.specs.Building.{unless_empty};
 
 use crate::fault::WriteFault;
-use bitflags::Flags;
-use jl_class::CodeBytes;
-use jl_names::{
-    Descriptor, TextFault, bytes_of, descriptor, is_class_name, is_method_name, utf16_of,
-};
-use jl_prim::{AccessFlags, Items, Name};
+use jl_class::{CodeBytes, is_interface};
+use jl_names::{Descriptor, TextFault, bytes_of, descriptor, is_class_name, utf16_of};
+use jl_prim::{Items, Name};
 use std::alloc::Global;
 
 /// The most bytes of a text of a pool (JVMS 4.4.7).
@@ -28,27 +25,19 @@ pub fn is_short(alloc: Global, text: &Name) -> Result<bool, WriteFault>
     ensures short { IfOk result (λ b. IsTrue b ↔ IsShort text.now) }
     // A name is a text.
     ensures utf8 { IfOk result (λ _. IsUtf8 text.now) }
+    // No other error comes.
+    ensures memory { IsOkUnless result WriteFault.NoMemory }
 {
     let units = utf16_of(alloc, text.as_str())?;
     let bytes = bytes_of(alloc, units.as_slice())?;
     Ok(bytes.len() <= MOST_BYTES)
 }
 
-/// Whether a class may have these flags: an interface is abstract, nothing is both final and abstract, and
-/// nothing is a module (JVMS 4.1).
-pub fn are_class_flags(flags: u16) -> bool
-    ensures { result ≡ meaning.are_class_flags flags }
-{
-    let flags = AccessFlags::from_bits_retain(flags);
-    let is_abstract = flags.contains(AccessFlags::ABSTRACT);
-    !(flags.contains(AccessFlags::INTERFACE) && !is_abstract)
-        && !(flags.contains(AccessFlags::FINAL) && is_abstract)
-        && !flags.contains(AccessFlags::MODULE)
-}
-
 /// Whether a superclass, empty for none, has a short name in internal form.
 pub fn is_superclass(alloc: Global, super_name: &Name) -> Result<bool, WriteFault>
-    ensures { IfOk result (λ b. IsTrue b ↔ IsSuper (unless_empty super_name.now)) }
+    ensures right { IfOk result (λ b. IsTrue b ↔ IsSuper (unless_empty super_name.now)) }
+    // No other error comes.
+    ensures memory { IsOkUnless result WriteFault.NoMemory }
 {
     match super_name.as_bytes() {
         [] => Ok(true),
@@ -61,60 +50,10 @@ pub fn is_superclass(alloc: Global, super_name: &Name) -> Result<bool, WriteFaul
 pub fn may_extend(flags: u16, name: &Name, super_name: &Name) -> bool
     ensures { result ≡ meaning.may_extend flags name.now (unless_empty super_name.now) }
 {
-    let is_interface = AccessFlags::from_bits_retain(flags).contains(AccessFlags::INTERFACE);
     match super_name.as_bytes() {
-        [] => name.as_str() == "java/lang/Object" && !is_interface,
-        [_, ..] => !is_interface || super_name.as_str() == "java/lang/Object",
+        [] => name.as_str() == "java/lang/Object" && !is_interface(flags),
+        [_, ..] => !is_interface(flags) || super_name.as_str() == "java/lang/Object",
     }
-}
-
-/// Whether a field may have these flags, in an interface or in a class (JVMS 4.5).
-pub fn are_field_flags(in_interface: bool, flags: u16) -> bool
-    ensures { result ≡ meaning.are_field_flags in_interface flags }
-{
-    let is_static = AccessFlags::from_bits_retain(flags).contains(AccessFlags::STATIC);
-    !has_two_accesses(flags) && !(in_interface && !is_static)
-}
-
-/// Whether a method may have these flags (JVMS 4.6).
-pub fn are_method_flags(flags: u16) -> bool
-    ensures { result ≡ meaning.are_method_flags flags }
-{
-    let all = AccessFlags::from_bits_retain(flags);
-    !has_two_accesses(flags)
-        && !(all.contains(AccessFlags::ABSTRACT)
-            && (all.contains(AccessFlags::STATIC) || all.contains(AccessFlags::PRIVATE)))
-}
-
-fn has_two_accesses(flags: u16) -> bool
-    ensures { result ≡ meaning.has_two_accesses flags }
-{
-    let all = AccessFlags::from_bits_retain(flags);
-    let is_public = all.contains(AccessFlags::PUBLIC);
-    let is_private = all.contains(AccessFlags::PRIVATE);
-    let is_protected = all.contains(AccessFlags::PROTECTED);
-    (is_public && is_private) || (is_public && is_protected) || (is_private && is_protected)
-}
-
-/// Whether a method with these flags has code.
-pub fn has_code(flags: u16) -> bool
-    ensures { result ≡ meaning.has_code flags }
-{
-    let all = AccessFlags::from_bits_retain(flags);
-    !(all.contains(AccessFlags::NATIVE) || all.contains(AccessFlags::ABSTRACT))
-}
-
-/// Whether a method with these flags may have the name: `<init>` is of an instance and not abstract,
-/// `<clinit>` is static (JVMS 2.9, 4.2.2).
-pub fn names_method(flags: u16, name: &Name) -> bool
-    ensures { result ≡ meaning.names_method_with flags name.now }
-{
-    let all = AccessFlags::from_bits_retain(flags);
-    let is_static = all.contains(AccessFlags::STATIC);
-    let is_abstract = all.contains(AccessFlags::ABSTRACT);
-    is_method_name(name.as_bytes())
-        && !(name.as_str() == "<init>" && (is_static || is_abstract))
-        && !(name.as_str() == "<clinit>" && !is_static)
 }
 
 /// Whether a text spells the type of a field (JVMS 4.3.2).

@@ -1,15 +1,14 @@
 //! Which constant a field may be given (JVMS 4.7.2).
 
-ghost use Rattle.std.specs.Prelude.{◌≡◌, ◌↔◌, IfOk, IsTrue, Some};
+ghost use Rattle.std.specs.Prelude.{◌≡◌, ◌↔◌, IfOk, IsOkUnless, IsTrue, Some};
 ghost use Rattle.jl_names.specs.Text.{AreUnits};
-ghost use Rattle.jl_class.specs.Meaning as meaning;
 ghost use Rattle.jl_classw.specs.Built.{IsShortConstant, MayHave, tag_of_constant};
 
 use crate::entry::Constant;
 use crate::fault::WriteFault;
-use bitflags::Flags;
+use jl_class::may_be_constant;
 use jl_names::bytes_of;
-use jl_prim::{AccessFlags, Name};
+use jl_prim::Name;
 use std::alloc::Global;
 
 /// The most bytes of a text of a pool (JVMS 4.4.7).
@@ -23,7 +22,9 @@ pub fn may_have(
     desc: &Name,
     constant: &Option<Constant>,
 ) -> Result<bool, WriteFault>
-    ensures { IfOk result (λ b. IsTrue b ↔ MayHave flags desc.now constant.now) }
+    ensures right { IfOk result (λ b. IsTrue b ↔ MayHave flags desc.now constant.now) }
+    // No other error comes.
+    ensures memory { IsOkUnless result WriteFault.NoMemory }
 {
     match constant {
         None => Ok(true),
@@ -32,14 +33,16 @@ pub fn may_have(
 }
 
 fn may_be(alloc: Global, flags: u16, desc: &Name, constant: &Constant) -> Result<bool, WriteFault>
-    ensures { IfOk result (λ b. IsTrue b ↔ MayHave flags desc.now (Some constant.now)) }
+    ensures right { IfOk result (λ b. IsTrue b ↔ MayHave flags desc.now (Some constant.now)) }
+    ensures memory { IsOkUnless result WriteFault.NoMemory }
 {
     let is_short = is_short(alloc, constant)?;
-    Ok(is_right(flags, desc, tag(constant)) && is_short)
+    Ok(may_be_constant(flags, desc, tag(constant)) && is_short)
 }
 
 fn is_short(alloc: Global, constant: &Constant) -> Result<bool, WriteFault>
-    ensures { IfOk result (λ b. IsTrue b ↔ IsShortConstant constant.now) }
+    ensures short { IfOk result (λ b. IsTrue b ↔ IsShortConstant constant.now) }
+    ensures memory { IsOkUnless result WriteFault.NoMemory }
 {
     match constant {
         Constant::Text(units) => {
@@ -64,39 +67,4 @@ fn tag(constant: &Constant) -> u8
         Constant::Long(_) => 5,
         Constant::Text(_) => 8,
     }
-}
-
-fn is_right(flags: u16, desc: &Name, tag: u8) -> bool
-    ensures { result ≡ meaning.may_be_constant flags desc.now (Some tag) }
-{
-    if AccessFlags::from_bits_retain(flags).contains(AccessFlags::STATIC) {
-        matches!(constant_tag(desc.as_str()), Some(wanted) if wanted == tag)
-    } else {
-        matches!(tag, 3 | 4 | 5 | 6 | 8)
-    }
-}
-
-/// The tag of the entries to which a static field with this descriptor may be set.
-fn constant_tag(desc: &str) -> Option<u8>
-    ensures { result ≡ meaning.constant_tag desc.now }
-{
-    if is_int_type(desc) {
-        Some(3)
-    } else if desc == "F" {
-        Some(4)
-    } else if desc == "J" {
-        Some(5)
-    } else if desc == "D" {
-        Some(6)
-    } else if desc == "Ljava/lang/String;" {
-        Some(8)
-    } else {
-        None
-    }
-}
-
-fn is_int_type(desc: &str) -> bool
-    ensures { result ≡ meaning.is_int_type desc.now }
-{
-    desc == "I" || desc == "S" || desc == "C" || desc == "B" || desc == "Z"
 }

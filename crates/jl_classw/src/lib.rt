@@ -17,10 +17,10 @@ mod writing;
 
 pub use builder::ClassBuilder;
 pub use conditions::{
-    are_class_flags, are_field_flags, are_method_flags, describes_a_field, describes_method,
-    has_code, is_short, is_small, is_superclass, may_extend, names_method,
+    describes_a_field, describes_method, is_short, is_small, is_superclass, may_extend,
 };
 pub use constants::may_have;
 pub use entry::{Constant, NewEntry};
 pub use fault::WriteFault;
+pub use jl_class::{are_class_flags, are_field_flags, are_method_flags, has_code, names_method};
 pub use writing::write_class;
