@@ -1,0 +1,7 @@
+pub mod Values
+pub mod Rows
+pub mod Table
+pub mod Boxes
+pub mod Ascii
+pub mod Script
+pub mod Outside
