@@ -8,3 +8,4 @@ pub mod NestContents
 pub mod NestLaws
 pub mod NestLoops
 pub mod PlaceLaws
+pub mod Rows

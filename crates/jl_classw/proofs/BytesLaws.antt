@@ -1,5 +1,5 @@
 -- The bytes of one attribute, and of rows that are made of others.
-use Rattle.std.proofs.Common.{◌≡◌, ℕ, List, [], ◌∷◌, ◌++◌, map, Result, Ok, Err, refl, sym, ap, ap₂, ◌∙◌}
+use Rattle.std.proofs.Common.{◌≡◌, ℕ, List, [], ◌∷◌, ◌++◌, map, Result, Ok, Err, refl, sym, ap, ap₂, ◌∙◌, append_assoc}
 use Rattle.std.specs.Prelude.{OnOk}
 use Rattle.std.specs.List.{flat_map}
 use Rattle.std.proofs.lemmas.List.{append-nil, length-map}
@@ -22,3 +22,9 @@ rows_mapped f g (x ∷ xs) = flat_map-cons g (f x) (map f xs) ∙ (ap (λ (l : L
 -- rows that are made of others
 pub counted_mapped : {A B : Type 0} (f : A → B) (g : B → List ℕ) (xs : List A) → counted g (map f xs) ≡ counted (λ x. g (f x)) xs
 counted_mapped f g xs = ap₂ (λ (n : ℕ) (l : List ℕ). two n ++ l) (length-map xs f) (rows_mapped f g xs)
+
+-- three texts behind what was there
+pub three_pushed : {A E : Type 0} (r : Result A E) (before first second new a b c : List ℕ) → first ≡ before ++ a → second ≡ first ++ b → OnOk r (new ≡ second ++ c) → OnOk r (new ≡ before ++ (a ++ (b ++ c)))
+three_pushed (Ok x) before first second new a b c e f h =
+    h ∙ (ap (λ (l : List ℕ). l ++ c) (f ∙ ap (λ (l : List ℕ). l ++ b) e) ∙ (append_assoc (before ++ a) b c ∙ append_assoc before a (b ++ c)))
+three_pushed (Err f) before first second new a b c e g h = tt

@@ -12,3 +12,4 @@ pub mod BuiltLaws
 pub mod UnitLaws
 pub mod KeyLaws
 pub mod HintLaws
+pub mod Rows
