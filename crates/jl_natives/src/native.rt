@@ -1,6 +1,6 @@
 //! Natives.
 
-ghost use Rattle.std.specs.Prelude.{◌≡◌, ◌≤◌, IsTrue, IfSome, Err};
+ghost use Rattle.std.specs.Prelude.{◌≡◌, ◌≤◌, IsTrue, IfSome, Err, None, false};
 ghost use Rattle.jl_logic.specs.Answers.{Tells};
 ghost use Rattle.jl_logic.specs.Counts.{Rose};
 ghost use Rattle.jl_natives.specs.Table.{takes, row_of, is_outside};
@@ -56,7 +56,9 @@ pub trait NativeOp: Drop {
 
     /// The number of its row.
     fn row(&self) -> u16
-        ensures { result ≡ (view self.now).row };
+        ensures number { result ≡ (view self.now).row }
+        // A native whose arguments decide it keeps no list of answers.
+        ensures no_list { is_outside (view self.now).row ≡ false → (view self.now).answers ≡ None };
 
     /// What it answers of the receiver, where it has one, and the arguments.
     ///
