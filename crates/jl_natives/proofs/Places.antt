@@ -6,7 +6,7 @@ use Rattle.jl_natives.specs.declared.plain.Plain.{Plain}
 use Rattle.jl_natives.specs.declared.native.NativeEnd.{NativeEnd}
 use Rattle.std.proofs.lemmas.Bool.{eqb-true}
 use Rattle.jl_natives.specs.Table.{takes}
-use Rattle.jl_natives.specs.Boxes.{View, row_at, Answers, Asks}
+use Rattle.jl_natives.specs.Boxes.{View, row_at, IsCalled, Asks}
 
 -- the one at the place has the row
 pub found_there : {X : Type 0} (view : X → View) (row : ℕ) (items : List X) (at : ℕ) (x : X) → at < length items → x ≡ get_or items at x → ((view x).row == row) ≡ true → (k : ℕ) → position_from (λ v. v.row == row) k (drop at (map view items)) ≡ Some k
@@ -26,7 +26,7 @@ view_there view (y ∷ ys) zero x lt is = rw (sym is) refl
 view_there view (y ∷ ys) (suc at) x lt is = view_there view ys at x (omega arith) is
 
 -- the one at the place was asked, and stands there as it is now
-pub one_asked : {X : Type 0} (view : X → View) (items : List X) (at : ℕ) (x y : X) (args : List Plain) (result : Result Plain NativeEnd) → at < length items → x ≡ get_or items at x → Answers (view x) args result (view y) → Asks (map view items) at args result (map view (slice_set items at y))
+pub one_asked : {X : Type 0} (view : X → View) (items : List X) (at : ℕ) (x y : X) (args : List Plain) (result : Result Plain NativeEnd) → at < length items → x ≡ get_or items at x → IsCalled (view x) args result (view y) → Asks (map view items) at args result (map view (slice_set items at y))
 one_asked view items at x y args result lt is answers =
     record { before = view x; after = view y; there = view_there view items at x lt is; answers = answers; others = map-set view items at y }
 

@@ -50,7 +50,7 @@ faults_after (Err Failed) n = raised n
 faults_after (Err NoMemory) n = n
 
 -- What a native in a box answers of arguments, and how it is seen before and after.
-pub record Answers (old : View) (args : List Plain) (result : Result Plain NativeEnd) (new : View) : Type 0 where
+pub record IsCalled (old : View) (args : List Plain) (result : Result Plain NativeEnd) (new : View) : Type 0 where
   pub same_row : new.row ≡ old.row
   -- a native whose arguments decide it answers its value, or throws its error
   pub decided : IfSome (row_of old.row args) (λ answer. Tells told result answer)
@@ -67,7 +67,7 @@ pub record Asks (old : List View) (place : ℕ) (args : List Plain) (result : Re
   pub before : View
   pub after : View
   pub there : slice_get old place ≡ Some before
-  pub answers : Answers before args result after
+  pub answers : IsCalled before args result after
   pub others : new ≡ slice_set old place after
 
 -- the first place of a box of a row

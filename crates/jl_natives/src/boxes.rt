@@ -2,7 +2,7 @@
 
 ghost use Rattle.std.specs.Prelude.{◌≡◌, ◌<◌, ◌==◌, map, length, IfSome, IsTrue};
 ghost use Rattle.jl_natives.specs.Table.{takes};
-ghost use Rattle.jl_natives.specs.Boxes.{place_of, row_at, Answers, Asks};
+ghost use Rattle.jl_natives.specs.Boxes.{place_of, row_at, IsCalled, Asks};
 
 use crate::native::{NativeEnd, NativeOp};
 use crate::plain::Plain;
@@ -50,7 +50,7 @@ fn ask_one(
     args: &[Plain],
 ) -> Result<Plain, NativeEnd>
     requires { IsTrue (takes (view native.old).row args.now) }
-    ensures { Answers (view native.old) args.now result (view native.new) }
+    ensures { IsCalled (view native.old) args.now result (view native.new) }
 {
     native.call(alloc, args)
 }

@@ -1,4 +1,4 @@
--- The attributes that are read, with where they stand and from which major version on (JVMS 4.7, tables 4.7-A to 4.7-C).
+-- The attributes that are read, with where they stand and from which major version on (JVMS 4.7).
 use Rattle.std.specs.Prelude.{ℕ, List, [], ◌∷◌, Option, None, Some, Bool, true, false, ◌&&◌, nat_le, codes, if◌then◌else◌}
 use Rattle.jl_logic.specs.Order.{is_text}
 use Rattle.jl_optable.specs.declared.attributes.Site.{Site}

@@ -1,5 +1,5 @@
 //! The table of the attributes of class files that are read, with where they stand and from which major
-//! version on (JVMS 4.7, tables 4.7-A to 4.7-C).
+//! version on (JVMS 4.7).
 
 ghost use Rattle.std.specs.Prelude.{◌≡◌, length};
 ghost use Rattle.jl_optable.specs.Attributes as words;

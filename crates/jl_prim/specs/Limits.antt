@@ -1,7 +1,7 @@
 -- The limits of the profile (JVMS 4.11 leaves such limits to an implementation).
 use Rattle.std.specs.Prelude.{ℕ}
 
--- modules in one scan of a path
+-- modules in one scan of a path, of one configuration, of all layers
 abbrev pub most_modules : ℕ
 most_modules = 4096
 

@@ -6,10 +6,10 @@ ghost use Rattle.jl_prim.specs.declared.ends.PushEnd.TheVariants as pushes;
 
 use std::alloc::{AllocError, AllocFailed};
 
-/// Why a value was not copied.
+/// Why a value was not copied, or not made of others.
 #[derive(Clone, Copy, Debug, PartialEq, Eq)]
 pub enum CopyEnd {
-    /// There was no memory for the copy.
+    /// There was no memory for it.
     NoMemory,
 }
 

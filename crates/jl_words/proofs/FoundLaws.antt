@@ -14,6 +14,7 @@ use Rattle.jl_names.specs.Names.{is_empty}
 use Rattle.jl_reading.specs.Reading.{◌>>=◌}
 use Rattle.jl_reading.proofs.Steps.{bind_ok, ok_is}
 use Rattle.jl_reading.proofs.Whole.{found_in, only_in}
+use Rattle.jl_prim.specs.Limits.{most_words}
 use Rattle.jl_words.specs.declared.command.Command.{Command}
 use Rattle.jl_words.specs.declared.command.RunWords.{RunWords}
 use Rattle.jl_words.specs.declared.command.Command.TheVariants.{Resolve, Run, Sample}
@@ -325,7 +326,7 @@ line_into words (Sample n bound) is = sample_into words n bound is
 
 -- ---- whole lines
 
-module _ {W : Type 0} (f : W → List ℕ) (ws : List W) (r : Result Command WordFault) (few : length ws ≤ 65536) where
+module _ {W : Type 0} (f : W → List ℕ) (ws : List W) (r : Result Command WordFault) (few : length ws ≤ most_words) where
   pub found_few : Gives told (λ x. x) r (line_read (map f ws)) → IfOk r (λ c. IsLine (map f ws) c)
   found_few = found_in (line_read (map f ws)) (IsLine (map f ws)) told (λ x. x) r (λ c e. record { few = omega (arith, few, length-map ws f); command = line_found (map f ws) c e })
 

@@ -15,7 +15,7 @@ pub returns-then-words-le-MOST_WORDS-clause-exact : goal.returns-then-words-le-M
 returns-then-words-le-MOST_WORDS-clause-exact c = gives_few string_bytes c.args.words.now c.line_read.result c.if-words-le-MOST_WORDS.true c.line_read.ensures
 
 pub slice_bounds-line_read-end : goal.slice_bounds-line_read-end
-slice_bounds-line_read-end c = omega (arith, length-take 65536 c.args.words.now, c.if-words-le-MOST_WORDS.false)
+slice_bounds-line_read-end c = omega (arith, length-take most_words c.args.words.now, c.if-words-le-MOST_WORDS.false)
 
 pub returns-clause-exact : goal.returns-clause-exact
 returns-clause-exact c = gives_many string_bytes c.args.words.now c.line_read-2.result c.past_most.result c.if-words-le-MOST_WORDS.false c.past_most.ensures c.line_read-2.ensures
