@@ -8,13 +8,12 @@ use Rattle.std.proofs.lemmas.List.{length-append, length-drop, length-map, drop_
 use Rattle.jl_logic.specs.Answers.{Gives}
 use Rattle.jl_logic.specs.Lists.{Match}
 use Rattle.jl_logic.specs.Order.{is_text}
-use Rattle.jl_prim.specs.Limits.{usual_steps}
+use Rattle.jl_prim.specs.Limits.{most_words, usual_steps}
 use Rattle.jl_prim.specs.Names.{names_a_module}
 use Rattle.jl_names.specs.Names.{is_empty}
 use Rattle.jl_reading.specs.Reading.{◌>>=◌}
 use Rattle.jl_reading.proofs.Steps.{bind_ok, ok_is}
 use Rattle.jl_reading.proofs.Whole.{found_in, only_in}
-use Rattle.jl_prim.specs.Limits.{most_words}
 use Rattle.jl_words.specs.declared.command.Command.{Command}
 use Rattle.jl_words.specs.declared.command.RunWords.{RunWords}
 use Rattle.jl_words.specs.declared.command.Command.TheVariants.{Resolve, Run, Sample}

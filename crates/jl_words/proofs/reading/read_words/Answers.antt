@@ -1,3 +1,4 @@
+use Rattle.jl_prim.specs.Limits.{most_words}
 use Rattle.jl_words.proofs.FoundLaws.{found_few, only_few}
 use Rattle.std.proofs.Common.{arith}
 use Rattle.std.specs.String.{string_bytes}
