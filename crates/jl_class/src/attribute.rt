@@ -18,7 +18,7 @@ use jl_prim::Name;
 use std::alloc::Global;
 
 /// The attributes of a site, and what each that is read means.
-pub trait Site<V>: Sized {
+pub trait SiteReader<V>: Sized {
     ghost use Rattle.std.specs.Prelude.{◌≡◌, ℕ, List, Option, Some, Result, Bool};
     ghost use Rattle.jl_logic.specs.Answers.{Gives};
     ghost use Rattle.jl_optable.specs.declared.attributes.AttrForm.{AttrForm};
@@ -60,11 +60,11 @@ pub trait Site<V>: Sized {
 
 /// The reader of a site's attributes.
 #[derive(Drop)]
-pub struct Attributes<S> {
+pub struct SiteAttributes<S> {
     pub site: S,
 }
 
-impl<V, S: Site<V>> AttributeReader<AttrForm, V, ClassFault> for Attributes<S> {
+impl<V, S: SiteReader<V>> AttributeReader<AttrForm, V, ClassFault> for SiteAttributes<S> {
     ghost use Rattle.jl_class.specs.Reading.{reader as reader_of};
 
     ghost reader = { λ all. reader_of (S.form_of all.site) (S.cut_at all.site) (S.may_stand all.site) (S.means all.site) };
@@ -106,7 +106,7 @@ impl<V, S: Site<V>> AttributeReader<AttrForm, V, ClassFault> for Attributes<S> {
 
 /// What the one attribute that is read means, of those whose count stands at a place.
 #[tactic(auto, unfolding(crate::specs::Reading::one_at))]
-pub fn one_at<'a, V: Drop, S: Site<V> + Drop>(
+pub fn one_at<'a, V: Drop, S: SiteReader<V> + Drop>(
     alloc: Global,
     site: S,
     source: Source,
@@ -116,7 +116,7 @@ pub fn one_at<'a, V: Drop, S: Site<V> + Drop>(
     ensures { Reads told (λ v. v) place.entry result (reading.one_at (reading.reader (S.form_of site) (S.cut_at site) (S.may_stand site) (S.means site)) (cut source) pool.now) }
 {
     let (count, place) = source.u16(place)?;
-    let reader = Attributes { site };
+    let reader = SiteAttributes { site };
     let (read, place) = attributes_at(alloc, &reader, pool, count, place)?;
     Ok((first(read), place))
 }

@@ -7,7 +7,7 @@ ghost use Rattle.jl_classfile.specs.Places.{Reads};
 ghost use Rattle.jl_class.specs.Faults.{told};
 ghost use Rattle.jl_class.specs.Reading as reading;
 
-use crate::attribute::{Site, named, one_at};
+use crate::attribute::{SiteReader, named, one_at};
 use crate::fault::ClassFault;
 use crate::member::CodeBytes;
 use crate::source::Source;
@@ -130,7 +130,7 @@ fn inner_at<'p>(
 #[derive(Drop)]
 struct Frames;
 
-impl Site<Items<u8>> for Frames {
+impl SiteReader<Items<u8>> for Frames {
     ghost use Rattle.std.specs.Prelude.{true};
     ghost use Rattle.jl_optable.specs.declared.attributes.AttrForm.TheVariants as forms;
     ghost use Rattle.jl_classfile.specs.Attributes.{alone, may_begin};

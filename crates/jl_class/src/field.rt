@@ -10,7 +10,7 @@ ghost use Rattle.jl_class.specs.Meaning.{field_key, is_member_among};
 ghost use Rattle.jl_class.specs.Reading as reading;
 ghost use Rattle.jl_class.specs.Reading.{constant_at};
 
-use crate::attribute::{Site, named, one_at};
+use crate::attribute::{SiteReader, named, one_at};
 use crate::fault::ClassFault;
 use crate::flags::{are_field_flags, is_static};
 use crate::member::{FieldDecl, MemberKey};
@@ -130,7 +130,7 @@ struct Constants<'a> {
     pool: &'a Pool,
 }
 
-impl Site<u16> for Constants<'_> {
+impl SiteReader<u16> for Constants<'_> {
     ghost use Rattle.std.specs.Prelude.{true};
     ghost use Rattle.jl_optable.specs.declared.attributes.AttrForm.TheVariants.{ConstantIndex};
     ghost use Rattle.jl_classfile.specs.Attributes.{alone, may_begin};

@@ -9,7 +9,7 @@ ghost use Rattle.jl_class.specs.Meaning as meaning;
 ghost use Rattle.jl_class.specs.Meaning.{method_key, is_member_among};
 ghost use Rattle.jl_class.specs.Reading as reading;
 
-use crate::attribute::{Site, named, one_at};
+use crate::attribute::{SiteReader, named, one_at};
 use crate::code::code_of;
 use crate::fault::ClassFault;
 use crate::flags::{are_method_flags, has_code};
@@ -121,7 +121,7 @@ struct Codes<'a> {
     pool: &'a Pool,
 }
 
-impl Site<CodeBytes> for Codes<'_> {
+impl SiteReader<CodeBytes> for Codes<'_> {
     ghost use Rattle.jl_optable.specs.declared.attributes.AttrForm.TheVariants.{CodeBody};
     ghost use Rattle.jl_classfile.specs.Attributes.{alone, may_begin};
     ghost use Rattle.jl_class.specs.Meaning.{names_code, has_code as has_code_by};

@@ -16,14 +16,14 @@ ghost use Rattle.jl_class.specs.Spelling.{or_nothing};
 ghost use Rattle.jl_class.specs.Reading as reading;
 ghost use Rattle.jl_class.specs.Reading.{named_in};
 
-use crate::attribute::{Attributes, Site, one_at};
+use crate::attribute::{SiteAttributes, SiteReader, one_at};
 use crate::fault::ClassFault;
 use crate::flags::is_final;
 use crate::names::describes_a_field as is_descriptor;
 use crate::source::Source;
 use jl_classfile::{Place, attributes_at};
 use jl_names::is_field_name;
-use jl_optable::{AttrForm, Site as Where, attr_table};
+use jl_optable::{AttrForm, Site, attr_table};
 use jl_pool::Pool;
 use jl_prim::{Copied, Items, Name};
 use std::alloc::Global;
@@ -61,7 +61,7 @@ pub fn nests_at<'p>(
     ensures { Reads told (λ x. x) place.entry result (reading.nests_at major flags pool.now) }
 {
     let (count, place) = place.u16::<ClassFault>()?;
-    let reader = Attributes {
+    let reader = SiteAttributes {
         site: ClassSite { major, flags, pool },
     };
     let (read, place) = attributes_at(alloc, &reader, pool, count, place)?;
@@ -116,7 +116,7 @@ struct ClassSite<'a> {
     pool: &'a Pool,
 }
 
-impl Site<ClassAttribute> for ClassSite<'_> {
+impl SiteReader<ClassAttribute> for ClassSite<'_> {
     ghost use Rattle.jl_optable.specs.declared.attributes.Site.TheVariants as sites;
     ghost use Rattle.jl_optable.specs.Attributes.{attribute_form};
     ghost use Rattle.jl_class.specs.Meaning.{may_follow};
@@ -131,7 +131,7 @@ impl Site<ClassAttribute> for ClassSite<'_> {
     ghost means = { λ site. meaning_at site.pool.now };
 
     fn form(&self, name: &Name) -> Option<AttrForm> {
-        attr_table().row(name.as_bytes(), Where::Class, self.major)
+        attr_table().row(name.as_bytes(), Site::Class, self.major)
     }
 
     fn may(&self, done: &[ClassAttribute], form: AttrForm) -> bool {
@@ -393,7 +393,7 @@ fn field_desc_in<'a, 'p>(
 #[derive(Drop)]
 struct Component;
 
-impl Site<u16> for Component {
+impl SiteReader<u16> for Component {
     ghost use Rattle.std.specs.Prelude.{None, Err, false};
     ghost use Rattle.jl_class.specs.declared.fault.ClassFault.TheVariants as faults;
     ghost use Rattle.jl_class.specs.Faults.{cut_in};
