@@ -1,6 +1,7 @@
 pub mod AttributeLaws
 pub mod ContentLaws
 pub mod FileLaws
+pub mod Longer
 pub mod MemberLaws
 pub mod MemberRights
 pub mod MethodLaws
@@ -9,3 +10,4 @@ pub mod NestLaws
 pub mod NestLoops
 pub mod PlaceLaws
 pub mod Rows
+pub mod WithinContents

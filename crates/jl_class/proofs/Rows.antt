@@ -1,5 +1,5 @@
 -- Worked rows: the definitions on small files.
-use Rattle.std.proofs.Common.{◌≡◌, ℕ, List, [], ◌∷◌, ◌++◌, None, Some, Ok, Err, true, false, refl}
+use Rattle.std.proofs.Common.{◌≡◌, ℕ, List, [], ◌∷◌, ◌++◌, None, Some, Ok, Err, true, false, refl, arith}
 use Rattle.std.specs.Prelude.{codes}
 use Rattle.jl_reading.specs.Reading.{each_at, steps_at}
 use Rattle.jl_names.specs.Names.{parts}
@@ -16,6 +16,8 @@ use Rattle.jl_classfile.specs.Places.{content_at as window_at}
 use Rattle.jl_classfile.specs.Attributes.{attribute_at, read_at, passed_at}
 use Rattle.jl_classfile.specs.Spelling.{contents}
 use Rattle.jl_class.specs.declared.nests.ClassAttribute.TheVariants as attributes
+use Rattle.jl_class.specs.Classes.{Class}
+use Rattle.jl_class.specs.Longer.{IsReadPast}
 use Rattle.jl_class.specs.Spelling.{code_bytes, member_bytes}
 use Rattle.jl_class.specs.Meaning.{may_follow}
 use Rattle.jl_class.specs.Reading.{class_pool_at, flags_at, named_at, super_at, interfaces_at, fields_at, methods_at, one_at, nests_at, meaning_at, named_in, host_at, component_at, each_component_at, components_at, record_at, class_of, constant_at, constants_at, long_text_at, handlers_at, code_at}
@@ -191,3 +193,12 @@ bytes_behind_components = refl
 component_without_a_name : record_at classes 7 (0 ∷ 1 ∷ 0 ∷ 9 ∷ []) 0 ≡ Err (faults.Attribute 7)
 unfolding record_at components_at each_component_at component_at steps_at named_in
 component_without_a_name = refl
+
+-- ---- files of which more is read
+
+read_past_the_cut : IsReadPast 53 (class_of (front 53 5 ++ (middle 0 4 ++ tables)))
+unfolding class_of front_at class_pool_at flags_at named_at super_at interfaces_at fields_at methods_at nests_at steps_at each_at pool_at entry_at content_at text_at bits_at units_read units_from unit_at plain has_no_lone_surrogate lib.Utf8.encode parts
+read_past_the_cut = tt
+
+cut_at_the_place : IsReadPast {C = Class} 53 (Err (faults.Short 53)) → ⊥
+cut_at_the_place lt = omega (arith, lt)

@@ -15,7 +15,8 @@ use std::alloc::{AllocError, AllocFailed};
 pub enum ClassFault {
     /// The file does not begin with 0xCAFEBABE.
     Magic,
-    /// The major and minor version are none of those that are read: major 53 and 54.
+    /// The major and minor version are none of those that are read: major 53 to 61, and from 56 on
+    /// minor 0.
     Version(u16, u16),
     /// The number, text or attribute content at this place is not whole.
     Short(usize),
