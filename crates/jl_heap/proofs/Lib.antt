@@ -1,6 +1,8 @@
 mod Alike
 mod Changing
 mod Counting
+pub mod Elements
+mod Fitting
 mod Keeping
 mod Placing
 mod Rows

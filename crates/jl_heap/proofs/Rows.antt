@@ -18,9 +18,9 @@ use Rattle.jl_heap.specs.declared.statics.Usable.TheVariants as usables
 use Rattle.jl_heap.specs.declared.value.Kind.TheVariants as kinds
 use Rattle.jl_heap.specs.declared.value.Value.{Value}
 use Rattle.jl_heap.specs.declared.value.Value.TheVariants as values
-use Rattle.jl_heap.specs.Objects.{shape_slots, new_object}
-use Rattle.jl_heap.specs.Heap.{HeapState, is_full, raised_by, begun_in, next_number, object_at, slot_at, units_at, with_object, with_changed, with_slot, with_mirror, with_text, with_listed}
-use Rattle.jl_heap.specs.Frames.{FrameState, FramesState, is_deep, new_frame, with_frame, without_frame, frame_at, top_of, value_at, room_of, on_top, with_value, without_value, without_values, with_local}
+use Rattle.jl_heap.specs.Objects.{shape_slots, new_object, slot_kinds, slot_count, FitsShape}
+use Rattle.jl_heap.specs.Heap.{HeapState, is_full, raised_by, begun_in, next_number, object_at, shape_at, kinds_in, slot_at, units_at, items_at, mirror_at, with_object, with_changed, with_slot, with_mirror, with_text, with_listed}
+use Rattle.jl_heap.specs.Frames.{FrameState, FramesState, is_deep, new_frame, with_frame, without_frame, frame_at, top_of, value_at, room_of, locals_in, height_in, room_in, on_top, with_value, without_value, without_values, with_local}
 use Rattle.jl_heap.specs.Statics.{entry_of, new_entry, with_class, with_changed_class, with_usable, with_static, is_usable, static_at}
 use Rattle.jl_heap.specs.Kept.{KeptState, kept_under, with_kept}
 
@@ -118,6 +118,35 @@ doubles_begin = refl
 rows_begin : (new_object (shapes.Array (record { base = bases.Prim 73; dims = 1 }) 1)).slots ≡ nothing ∷ []
 rows_begin = refl
 
+-- ---- the slots of a shape
+
+kinds_of_fields : slot_kinds (shapes.Object class (kinds.Long ∷ kinds.Ref ∷ [])) ≡ kinds.Long ∷ kinds.Ref ∷ []
+kinds_of_fields = refl
+
+kinds_of_elements : slot_kinds (shapes.Array ints 2) ≡ kinds.Int ∷ kinds.Int ∷ []
+kinds_of_elements = refl
+
+kinds_of_items : slot_kinds (shapes.List class (nothing ∷ five ∷ [])) ≡ kinds.Ref ∷ kinds.Int ∷ []
+kinds_of_items = refl
+
+no_slot_of_a_text : slot_kinds (text 5) ≡ []
+no_slot_of_a_text = refl
+
+no_slot_of_a_mirror : slot_kinds (shapes.Mirror class (mirrors.Field (record { 0 = 1 }) false)) ≡ []
+no_slot_of_a_mirror = refl
+
+count_of_elements : slot_count (shapes.Array ints 300) ≡ 300
+count_of_elements = refl
+
+count_of_items : slot_count (shapes.List class (nothing ∷ [])) ≡ 1
+count_of_items = refl
+
+count_of_a_text : slot_count (text 5) ≡ 0
+count_of_a_text = refl
+
+array_of_ints_fits : FitsShape (record { shape = shapes.Array ints 2; slots = zero_int ∷ five ∷ [] })
+array_of_ints_fits = refl
+
 -- ---- the heap
 
 heap : List Object → ℕ → HeapState
@@ -174,6 +203,24 @@ no_object_zero = refl
 
 no_object_six : object_at five_objects (record { 0 = 6 }) ≡ None
 no_object_six = refl
+
+shape_of_the_second : shape_at five_objects (record { 0 = 2 }) ≡ Some (shapes.Array ints 2)
+shape_of_the_second = refl
+
+kinds_in_the_first : kinds_in five_objects (record { 0 = 1 }) ≡ kinds.Int ∷ kinds.Ref ∷ []
+kinds_in_the_first = refl
+
+kinds_in_none : kinds_in five_objects (record { 0 = 6 }) ≡ []
+kinds_in_none = refl
+
+no_text : units_at five_objects (record { 0 = 2 }) ≡ None
+no_text = refl
+
+no_items_yet : items_at five_objects (record { 0 = 4 }) ≡ Some []
+no_items_yet = refl
+
+stands_for_an_iterator : mirror_at five_objects (record { 0 = 5 }) ≡ Some (mirrors.Iter (record { 0 = 4 }) 0)
+stands_for_an_iterator = refl
 
 field_set : slot_at (with_changed (record { 0 = 1 }) (with_slot 0 five) five_objects) (record { 0 = 1 }) 0 ≡ Some five
 field_set = refl
@@ -255,6 +302,23 @@ no_room = refl
 
 one_taken : room_of (without_value with_long) ≡ 1
 one_taken = refl
+
+one_local : locals_in two_frames ≡ 1
+one_local = refl
+
+empty_stack : height_in two_frames ≡ 0
+empty_stack = refl
+
+room_for_two : room_in two_frames ≡ 2
+room_for_two = refl
+
+room_without_a_frame : room_in (frames []) ≡ 0
+unfolding frames
+room_without_a_frame = refl
+
+long_is_two_high : height_in (frames (with_long ∷ [])) ≡ 2
+unfolding frames
+long_is_two_high = refl
 
 cleared : without_values with_long ≡ new_frame small
 cleared = refl

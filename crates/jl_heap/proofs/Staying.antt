@@ -1,6 +1,6 @@
 -- Objects stay under their numbers.
-use Rattle.std.proofs.Common.{◌≡◌, ◌≢◌, ◌+◌, ◌-◌, ℕ, zero, suc, List, [], ◌∷◌, ◌++◌, length, Option, None, Some, slice_get, slice_set, refl, ◌∙◌, ap, arith}
-use Rattle.std.proofs.lemmas.Option.{none-some, slice_get_past}
+use Rattle.std.proofs.Common.{◌≡◌, ◌≢◌, ◌+◌, ◌-◌, ℕ, zero, suc, List, [], ◌∷◌, ◌++◌, length, Option, None, Some, slice_get, slice_set, option_map, refl, sym, ◌∙◌, ap, arith}
+use Rattle.std.proofs.lemmas.Option.{none-some, same_Some, slice_get_past}
 use Rattle.std.proofs.lemmas.List.{length-set}
 use Rattle.jl_heap.specs.Heap.{changed_at, at_number}
 
@@ -53,3 +53,17 @@ length_changed {X} change xs i = by (slice_get xs i) refl
     by : (o : Option X) → slice_get xs i ≡ o → length (changed_at i change xs) ≡ length xs
     by None e = rw e refl
     by (Some x) e = rw e (length-set xs i (change x))
+
+-- what is seen of each element stays where a changed one shows the same
+seen_set : {X Y : Type 0} (f : X → Y) (xs : List X) (i j : ℕ) (x y : X) → slice_get xs i ≡ Some x → f y ≡ f x → option_map f (slice_get (slice_set xs i y) j) ≡ option_map f (slice_get xs j)
+seen_set f [] i j x y e s = refl
+seen_set f (z ∷ xs) zero zero x y e s = ap Some (s ∙ ap f (sym (same_Some z x e)))
+seen_set f (z ∷ xs) zero (suc j) x y e s = refl
+seen_set f (z ∷ xs) (suc i) zero x y e s = refl
+seen_set f (z ∷ xs) (suc i) (suc j) x y e s = seen_set f xs i j x y e s
+
+pub seen_changed : {X Y : Type 0} (f : X → Y) (change : X → X) (xs : List X) (x : X) (n m : ℕ) → at_number xs n ≡ Some x → f (change x) ≡ f x
+    → option_map f (at_number (changed_at (n - 1) change xs) m) ≡ option_map f (at_number xs m)
+seen_changed f change xs x zero m e s = absurd (none-some x e)
+seen_changed f change xs x (suc i) zero e s = refl
+seen_changed f change xs x (suc i) (suc j) e s = let same : suc i - 1 ≡ i = omega arith in rw (same, e) (seen_set f xs i j x (change x) e s)

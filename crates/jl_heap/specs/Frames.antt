@@ -1,6 +1,7 @@
 -- Frames of calls: their locals and their operand stacks, slot by slot (JVMS 2.6).
-use Rattle.std.specs.Prelude.{◌≡◌, ℕ, ◌+◌, ◌-◌, ◌<◌, List, [], ◌∷◌, length, drop, Option, Some, Bool, ◌||◌, nat_lt, slice_get, slice_set, map, replicate}
+use Rattle.std.specs.Prelude.{◌≡◌, ℕ, ◌+◌, ◌-◌, ◌≤◌, List, [], ◌∷◌, length, drop, Option, IsSome, Bool, ◌||◌, nat_lt, slice_get, slice_set, map, replicate}
 use Rattle.std.specs.List.{sum}
+use Rattle.std.specs.Option.{option_map_or}
 use Rattle.jl_prim.specs.declared.limits.TheConstants.{MOST_FRAMES, MOST_FRAME_SLOTS}
 use Rattle.jl_heap.specs.declared.value.Value.{Value}
 use Rattle.jl_heap.specs.declared.value.Value.TheVariants as values
@@ -90,10 +91,26 @@ without_value f = record f { stack = drop 1 f.stack }
 abbrev pub without_values : FrameState → FrameState
 without_values f = record f { stack = [] }
 
--- a frame is there, with a local of this number
-abbrev pub HasLocal : FramesState → ℕ → Type 0
-HasLocal s at = (f : FrameState) × (top_of s ≡ Some f) × (at < f.max_locals)
+-- the slots of the top frame's locals, and none where there is no frame
+abbrev pub locals_in : FramesState → ℕ
+locals_in s = option_map_or (λ (f : FrameState). f.max_locals) (top_of s) 0
 
--- a frame is there, and its stack has room for one value more
-abbrev pub HasRoom : FramesState → Type 0
-HasRoom s = (f : FrameState) × (top_of s ≡ Some f) × (length f.stack < f.max_stack)
+-- the values on the top frame's stack
+abbrev pub height_in : FramesState → ℕ
+height_in s = option_map_or (λ (f : FrameState). length f.stack) (top_of s) 0
+
+-- the slots that the top frame's stack has left
+abbrev pub room_in : FramesState → ℕ
+room_in s = option_map_or room_of (top_of s) 0
+
+-- The frame on top stays, with its locals. Its stack has so many values now, and room for all others that it may have.
+pub record StaysOnTop (old new : FramesState) (count : ℕ) : Type 0 where
+  pub there : IsSome (top_of new)
+  pub locals : locals_in new ≡ locals_in old
+  pub height : height_in new ≡ count
+  pub room : room_in new + height_in new ≡ room_in old + height_in old
+
+-- A frame has its locals, and no more on its stack than it may.
+pub record IsWithin (f : FrameState) : Type 0 where
+  pub locals : length f.locals ≡ f.max_locals
+  pub stack : length f.stack ≤ f.max_stack

@@ -1,15 +1,17 @@
 -- The heap: the list of all objects made so far, and the slots that they took (JVMS 2.5.3).
-use Rattle.std.specs.Prelude.{ℕ, zero, suc, ◌+◌, ◌-◌, List, [], ◌∷◌, ◌++◌, length, Option, None, Some, Bool, nat_lt, min, slice_get, slice_set}
-use Rattle.std.specs.Option.{option_and_then}
+use Rattle.std.specs.Prelude.{ℕ, zero, suc, ◌+◌, ◌-◌, List, [], ◌∷◌, ◌++◌, length, Option, None, Some, Bool, nat_lt, min, map, option_map, slice_get, slice_set}
+use Rattle.std.specs.Option.{option_and_then, option_map_or}
 use Rattle.jl_logic.specs.Counts.{last_count}
 use Rattle.jl_prim.specs.declared.limits.TheConstants.{MOST_HEAP_SLOTS}
 use Rattle.jl_prim.specs.declared.numbers.ObjRef.{ObjRef}
+use Rattle.jl_heap.specs.declared.value.Kind.{Kind}
 use Rattle.jl_heap.specs.declared.value.Value.{Value}
 use Rattle.jl_heap.specs.declared.shape.Mirror.{Mirror}
 use Rattle.jl_heap.specs.declared.shape.Shape.{Shape}
 use Rattle.jl_heap.specs.declared.shape.Shape.TheVariants as shapes
 use Rattle.jl_heap.specs.declared.shape.Object.{Object}
 use Rattle.jl_heap.specs.Objects.{shape_slots, text_slots, new_object, slots_of}
+use Rattle.jl_heap.specs.Values.{kind_of}
 
 -- the objects in the order in which they were made, and the slots that were taken so far
 pub record HeapState : Type 0 where
@@ -44,6 +46,10 @@ at_number xs (suc i) = slice_get xs i
 abbrev pub object_at : HeapState → ObjRef → Option Object
 object_at h o = at_number h.objects o.0
 
+-- the shape of the object with a number
+abbrev pub shape_at : HeapState → ObjRef → Option Shape
+shape_at h o = option_map (λ (x : Object). x.shape) (object_at h o)
+
 -- one object more, which takes its slots
 abbrev pub with_object : Shape → HeapState → HeapState
 with_object shape h = record { objects = h.objects ++ new_object shape ∷ []; used = raised_by h.used (shape_slots shape) }
@@ -51,6 +57,10 @@ with_object shape h = record { objects = h.objects ++ new_object shape ∷ []; u
 -- an object is changed
 abbrev pub with_changed : ObjRef → (Object → Object) → HeapState → HeapState
 with_changed o change h = record h { objects = changed_at (o.0 - 1) change h.objects }
+
+-- the kinds of the values in the slots of the object with a number, and none where there is no such object
+abbrev pub kinds_in : HeapState → ObjRef → List Kind
+kinds_in h o = option_map_or (λ (x : Object). map kind_of (slots_of x)) (object_at h o) []
 
 -- a slot of an object
 abbrev pub slot_at : HeapState → ObjRef → ℕ → Option Value
@@ -84,30 +94,44 @@ with_item v o = record o { shape = by o.shape } where
   by (shapes.List class items) = shapes.List class (items ++ v ∷ [])
   by shape = shape
 
+-- the units of a shape that is a text's
+abbrev pub units_of : Shape → Option (List ℕ)
+units_of (shapes.Text class units) = Some units
+units_of _ = None
+
+-- the items of a shape that is a list's
+abbrev pub items_of : Shape → Option (List Value)
+items_of (shapes.List class items) = Some items
+items_of _ = None
+
+-- what a mirror's shape stands for
+abbrev pub mirror_of : Shape → Option Mirror
+mirror_of (shapes.Mirror class what) = Some what
+mirror_of _ = None
+
 -- the units of a text
 abbrev pub text_units : Object → Option (List ℕ)
-text_units o = by o.shape where
-  by : Shape → Option (List ℕ)
-  by (shapes.Text class units) = Some units
-  by _ = None
+text_units o = units_of o.shape
 
 -- the items of a list
 abbrev pub list_items : Object → Option (List Value)
-list_items o = by o.shape where
-  by : Shape → Option (List Value)
-  by (shapes.List class items) = Some items
-  by _ = None
+list_items o = items_of o.shape
 
 -- what a mirror stands for
 abbrev pub mirrored : Object → Option Mirror
-mirrored o = by o.shape where
-  by : Shape → Option Mirror
-  by (shapes.Mirror class what) = Some what
-  by _ = None
+mirrored o = mirror_of o.shape
 
 -- the units of the text with a number
 abbrev pub units_at : HeapState → ObjRef → Option (List ℕ)
-units_at h o = option_and_then text_units (object_at h o)
+units_at h o = option_and_then units_of (shape_at h o)
+
+-- the items of the list with a number
+abbrev pub items_at : HeapState → ObjRef → Option (List Value)
+items_at h o = option_and_then items_of (shape_at h o)
+
+-- what the mirror with a number stands for
+abbrev pub mirror_at : HeapState → ObjRef → Option Mirror
+mirror_at h o = option_and_then mirror_of (shape_at h o)
 
 -- the slots that more units begin at the end of a text
 abbrev pub begun_in : Object → List ℕ → ℕ

@@ -8,7 +8,7 @@ use Rattle.jl_heap.specs.declared.shape.Mirror.{Mirror}
 use Rattle.jl_heap.specs.declared.shape.Shape.{Shape}
 use Rattle.jl_heap.specs.declared.shape.Shape.TheVariants as shapes
 use Rattle.jl_heap.specs.declared.shape.Object.{Object}
-use Rattle.jl_heap.specs.Objects.{shape_slots, mirror_slots, new_object, slots_of}
+use Rattle.jl_heap.specs.Objects.{shape_slots, mirror_slots, new_object, slots_of, FitsShape}
 use Rattle.jl_heap.specs.Heap.{HeapState, next_number, object_at, slot_at, with_object, with_changed, with_slot, with_mirror, with_units, with_item, with_text, with_listed, text_units, list_items, mirrored}
 
 -- An object has its number for ever: others that are made, and changes of others, leave it as it is.
@@ -47,6 +47,10 @@ pub record ShapesStay : Type 0 where
   pub text_more : (more : List ℕ) (x : Object) → text_units (with_units more x) ≡ option_map (λ units. units ++ more) (text_units x)
   pub list_alike : (v : Value) (x : Object) → AreAlike (with_item v x).shape x.shape
   pub list_more : (v : Value) (x : Object) → list_items (with_item v x) ≡ option_map (λ items. items ++ v ∷ []) (list_items x)
+
+-- Each object has the slots of its shape: an instance one of the kind of each field, and an array as many as its length says, of its elements' kind.
+abbrev pub SlotsFit : HeapState → Type 0
+SlotsFit h = (o : ObjRef) (x : Object) → object_at h o ≡ Some x → FitsShape x
 
 -- the slots that the objects take
 abbrev pub taken : List Object → ℕ

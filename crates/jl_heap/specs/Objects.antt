@@ -1,5 +1,5 @@
 -- Objects: what they hold, and how many slots of the heap they take (JVMS 2.4, 2.5.3).
-use Rattle.std.specs.Prelude.{ℕ, ◌+◌, ◌/◌, List, [], length, map, ◌||◌, ◌==◌, nat_lt, if◌then◌else◌, replicate}
+use Rattle.std.specs.Prelude.{◌≡◌, ℕ, ◌+◌, ◌/◌, List, [], length, map, ◌||◌, ◌==◌, nat_lt, if◌then◌else◌, replicate}
 use Rattle.jl_heap.specs.declared.value.Kind.{Kind}
 use Rattle.jl_heap.specs.declared.value.Kind.TheVariants as kinds
 use Rattle.jl_heap.specs.declared.value.Value.{Value}
@@ -11,7 +11,7 @@ use Rattle.jl_heap.specs.declared.shape.Mirror.TheVariants as mirrors
 use Rattle.jl_heap.specs.declared.shape.Shape.{Shape}
 use Rattle.jl_heap.specs.declared.shape.Shape.TheVariants as shapes
 use Rattle.jl_heap.specs.declared.shape.Object.{Object}
-use Rattle.jl_heap.specs.Values.{first_value}
+use Rattle.jl_heap.specs.Values.{kind_of, first_value}
 
 -- the kind of the values of a primitive type, by its letter: J is long, F and D hold nothing, all others are ints
 abbrev pub letter_kind : ℕ → Kind
@@ -60,3 +60,23 @@ slots_of o = by o.shape where
   by : Shape → List Value
   by (shapes.List class items) = items
   by _ = o.slots
+
+-- the kinds of the slots that an object of a shape has: one for each field, element or item
+abbrev pub slot_kinds : Shape → List Kind
+slot_kinds (shapes.Object class fields) = fields
+slot_kinds (shapes.Array element len) = replicate len (element_kind element)
+slot_kinds (shapes.Text class units) = []
+slot_kinds (shapes.List class items) = map kind_of items
+slot_kinds (shapes.Mirror class what) = []
+
+-- how many slots an object of a shape has: one for each field, element or item
+abbrev pub slot_count : Shape → ℕ
+slot_count (shapes.Object class fields) = length fields
+slot_count (shapes.Array element len) = len
+slot_count (shapes.Text class units) = 0
+slot_count (shapes.List class items) = length items
+slot_count (shapes.Mirror class what) = 0
+
+-- an object has the slots of its shape
+abbrev pub FitsShape : Object → Type 0
+FitsShape o = map kind_of (slots_of o) ≡ slot_kinds o.shape

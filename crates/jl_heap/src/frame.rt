@@ -1,7 +1,7 @@
 //! One frame (JVMS 2.6).
 
-ghost use Rattle.std.specs.Prelude.{◌≡◌, ◌<◌, ◌≤◌, length, IfOk, IsOkUnless, Some, slice_get};
-ghost use Rattle.jl_heap.specs.Frames.{FrameState, new_frame, frame_slots, room_of, value_at, with_pc, with_local, with_value, without_value, without_values};
+ghost use Rattle.std.specs.Prelude.{◌≡◌, ◌+◌, ◌<◌, ◌≤◌, length, IfOk, IsOkUnless, Some, slice_get};
+ghost use Rattle.jl_heap.specs.Frames.{FrameState, new_frame, frame_slots, room_of, value_at, with_pc, with_local, with_value, without_value, without_values, IsWithin};
 
 use crate::ends::FrameEnd;
 use crate::value::Value;
@@ -88,7 +88,8 @@ impl Frame {
     }
 
     pub fn max_locals(&self) -> u16
-        ensures { result ≡ self.now.max_locals }
+        ensures locals { result ≡ self.now.max_locals }
+        ensures within { IsWithin self.now }
     {
         self.max_locals
     }
@@ -144,13 +145,15 @@ impl Frame {
     pub fn pop(&mut self) -> Option<Value>
         ensures value { result ≡ value_at self.old 0 }
         ensures left { self.new ≡ without_value self.old }
+        ensures room { room_of self.new + length self.new.stack ≡ room_of self.old + length self.old.stack }
     {
         self.stack.pop()
     }
 
     /// Takes all values of the stack.
     pub fn clear(&mut self)
-        ensures { self.new ≡ without_values self.old }
+        ensures cleared { self.new ≡ without_values self.old }
+        ensures room { room_of self.new ≡ room_of self.old + length self.old.stack }
     {
         self.stack.clear();
     }

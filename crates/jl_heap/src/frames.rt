@@ -1,10 +1,9 @@
 //! The frames of a task (JVMS 2.5.2, 2.6).
 
-ghost use Rattle.std.specs.Prelude.{◌≡◌, ◌↔◌, ◌+◌, [], length, None, Some, IsTrue, IsErrOf, IsSome, OnOk, OnErr, option_map, slice_get};
+ghost use Rattle.std.specs.Prelude.{◌≡◌, ◌↔◌, ◌+◌, ◌-◌, ◌<◌, [], length, None, Some, IsTrue, IsErrOf, IsSome, OnOk, OnErr, option_map, slice_get};
 ghost use Rattle.std.specs.Option.{option_and_then};
 ghost use Rattle.jl_heap.specs.declared.ends.FrameEnd.TheVariants.{Deep};
-ghost use Rattle.jl_heap.specs.Frames as frames;
-ghost use Rattle.jl_heap.specs.Frames.{FrameState, FramesState, is_deep, with_frame, on_top, without_frame, frame_at, value_at, with_pc, with_local, with_value, without_value, without_values, HasLocal, HasRoom, top_of};
+ghost use Rattle.jl_heap.specs.Frames.{FrameState, FramesState, is_deep, with_frame, on_top, without_frame, frame_at, value_at, with_pc, with_local, with_value, without_value, without_values, top_of, room_of, locals_in, height_in, room_in, StaysOnTop, IsWithin};
 
 use crate::ends::FrameEnd;
 use crate::frame::{Frame, FrameKind, NewFrame};
@@ -95,7 +94,7 @@ impl Frames {
     /// The slots of the top frame's locals.
     pub fn max_locals(&self) -> u16
         requires { IsSome (top_of self.now) }
-        ensures { option_map (λ (f : FrameState). f.max_locals) (top_of self.now) ≡ Some result }
+        ensures { result ≡ locals_in self.now }
     {
         self.top_frame().max_locals()
     }
@@ -103,7 +102,7 @@ impl Frames {
     /// The slots that the top frame's stack has left.
     pub fn room(&self) -> u16
         requires { IsSome (top_of self.now) }
-        ensures { option_map frames.room_of (top_of self.now) ≡ Some result }
+        ensures { result ≡ room_in self.now }
     {
         self.top_frame().room()
     }
@@ -111,7 +110,7 @@ impl Frames {
     /// The slots that the stack of the frame below the top has left. None where there is none.
     pub fn room_below(&self) -> Option<u16>
         requires { IsSome (top_of self.now) }
-        ensures { result ≡ option_map frames.room_of (frame_at self.now 1) }
+        ensures { result ≡ option_map room_of (frame_at self.now 1) }
     {
         match self.below.last() {
             Some(frame) => Some(frame.room()),
@@ -152,7 +151,8 @@ impl Frames {
     /// Sets the place in the code of the top frame's method.
     pub fn set_pc(&mut self, pc: u32)
         requires { IsSome (top_of self.old) }
-        ensures { self.new ≡ on_top (with_pc pc) self.old }
+        ensures set { self.new ≡ on_top (with_pc pc) self.old }
+        ensures frame { StaysOnTop self.old self.new (height_in self.old) }
     {
         if let Some(top) = &mut self.top {
             top.set_pc(pc);
@@ -161,7 +161,7 @@ impl Frames {
 
     /// The value of a local of the top frame.
     pub fn local(&self, at: usize) -> Value
-        requires { HasLocal self.now at }
+        requires { at < locals_in self.now }
         ensures { option_and_then (λ (f : FrameState). slice_get f.locals at) (top_of self.now) ≡ Some result }
     {
         self.top_frame().local(at)
@@ -169,8 +169,9 @@ impl Frames {
 
     /// Sets a local of the top frame.
     pub fn set_local(&mut self, at: usize, v: Value)
-        requires { HasLocal self.old at }
-        ensures { self.new ≡ on_top (with_local at v) self.old }
+        requires { at < locals_in self.old }
+        ensures set { self.new ≡ on_top (with_local at v) self.old }
+        ensures frame { StaysOnTop self.old self.new (height_in self.old) }
     {
         if let Some(top) = &mut self.top {
             top.set_local(at, v);
@@ -180,15 +181,17 @@ impl Frames {
     /// The value so many below the top of the top frame's stack. None where the stack is not so deep.
     pub fn peek(&self, down: usize) -> Option<Value>
         requires { IsSome (top_of self.now) }
-        ensures { result ≡ option_and_then (λ f. value_at f down) (top_of self.now) }
+        ensures value { result ≡ option_and_then (λ f. value_at f down) (top_of self.now) }
+        ensures there { IsSome result ↔ (down < height_in self.now) }
     {
         self.top_frame().peek(down)
     }
 
     /// Puts a value on the top frame's stack.
     pub fn put(&mut self, v: Value)
-        requires { HasRoom self.old }
-        ensures { self.new ≡ on_top (with_value v) self.old }
+        requires { 0 < room_in self.old }
+        ensures put { self.new ≡ on_top (with_value v) self.old }
+        ensures frame { StaysOnTop self.old self.new (height_in self.old + 1) }
     {
         if let Some(top) = &mut self.top {
             top.put(v);
@@ -200,6 +203,7 @@ impl Frames {
         requires { IsSome (top_of self.old) }
         ensures value { result ≡ option_and_then (λ f. value_at f 0) (top_of self.old) }
         ensures left { self.new ≡ on_top without_value self.old }
+        ensures frame { StaysOnTop self.old self.new (height_in self.old - 1) }
     {
         match &mut self.top {
             Some(top) => top.pop(),
@@ -210,7 +214,8 @@ impl Frames {
     /// Empties the top frame's stack.
     pub fn clear(&mut self)
         requires { IsSome (top_of self.old) }
-        ensures { self.new ≡ on_top without_values self.old }
+        ensures left { self.new ≡ on_top without_values self.old }
+        ensures frame { StaysOnTop self.old self.new 0 }
     {
         if let Some(top) = &mut self.top {
             top.clear();
@@ -220,7 +225,8 @@ impl Frames {
     /// Drops the top frame.
     pub fn leave(&mut self)
         requires { IsSome (top_of self.old) }
-        ensures { self.new ≡ without_frame self.old }
+        ensures left { self.new ≡ without_frame self.old }
+        ensures below { top_of self.new ≡ frame_at self.old 1 }
     {
         if let Some(top) = self.top.take() {
             self.slots -= top.slots();

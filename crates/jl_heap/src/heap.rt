@@ -1,12 +1,13 @@
 //! The heap (JVMS 2.5.3).
 
-ghost use Rattle.std.specs.Prelude.{◌≡◌, ◌↔◌, ◌<◌, ◌≤◌, ◌+◌, ℕ, List, [], length, IfOk, IsErrOf, IsTrue, OnErr, OnOk, Some, option_map, map, false};
+ghost use Rattle.std.specs.Prelude.{◌≡◌, ◌↔◌, ◌<◌, ◌≤◌, ◌+◌, [], length, IfOk, IsErrOf, IsSome, IsTrue, OnErr, OnOk, Some, map, slice_get, false};
+ghost use Rattle.jl_prim.specs.declared.numbers.ObjRef.{ObjRef};
 ghost use Rattle.jl_heap.specs.declared.ends.HeapEnd.TheVariants.{Full};
-ghost use Rattle.jl_heap.specs.Heap.{HeapState, next_number, is_full, with_object, with_changed, with_slot, with_mirror, with_text, with_listed, slot_at, object_at, units_at, mirrored, list_items, begun_by};
-ghost use Rattle.jl_heap.specs.Objects.{shape_slots, text_slots};
+ghost use Rattle.jl_heap.specs.Heap.{HeapState, next_number, is_full, with_object, with_changed, with_slot, with_mirror, with_text, with_listed, slot_at, object_at, shape_at, kinds_in, units_at, items_at, mirror_at, begun_by};
+ghost use Rattle.jl_heap.specs.Laws.{SlotsFit};
+ghost use Rattle.jl_heap.specs.Objects.{shape_slots, text_slots, slot_kinds, slot_count};
 ghost use Rattle.jl_heap.specs.Objects as objects;
 ghost use Rattle.jl_heap.specs.Values.{kind_of, first_value};
-ghost use Rattle.std.specs.Option.{option_and_then};
 
 use crate::ends::{HeapEnd, StoreEnd};
 use crate::shape::{Mirror, Object, Shape, element_kind, shape_slots, text_slots};
@@ -24,15 +25,16 @@ pub struct Heap {
 }
 
 impl Model for Heap {
-    ghost use Rattle.std.specs.Prelude.{◌≤◌, vec_len};
+    ghost use Rattle.std.specs.Prelude.{◌≤◌, All, vec_len};
     ghost use Rattle.jl_heap.specs.Heap.{HeapState};
+    ghost use Rattle.jl_heap.specs.Objects.{FitsShape};
 
     ghost Value = { HeapState };
 
     ghost view = { λ h. record { objects = h.objects.items; used = h.used } };
 
-    // Each object took a slot at least, and their numbers fit.
-    ghost invariant = { λ h. (vec_len h.objects ≤ h.used) × (vec_len h.objects ≤ 4294967295) };
+    // Each object took a slot at least, their numbers fit, and each has the slots of its shape.
+    ghost invariant = { λ h. (vec_len h.objects ≤ h.used) × (vec_len h.objects ≤ 4294967295) × All FitsShape h.objects.items };
 }
 
 impl Heap {
@@ -81,6 +83,7 @@ impl Heap {
         slots > MOST_HEAP_SLOTS || self.used > MOST_HEAP_SLOTS - slots
     }
 
+    #[tactic(auto, using(crate::proofs::Fitting::all_with_object))]
     fn make(&mut self, shape: Shape, slots: u64) -> Result<ObjRef, StoreEnd>
         requires few { length self.old.objects < 4294967295 }
         requires slots { slots ≡ shape_slots shape }
@@ -97,39 +100,55 @@ impl Heap {
         Ok(ObjRef(self.objects.len() as u32))
     }
 
-    /// What an object is.
+    /// Whether there is an object with this number.
+    pub fn has(&self, o: ObjRef) -> bool
+        ensures { IsTrue result ↔ IsSome (object_at self.now o) }
+    {
+        0 < o.0 && o.0 as usize <= self.objects.len()
+    }
+
+    /// How many objects there are.
+    pub fn count(&self) -> u32
+        ensures { result ≡ length self.now.objects }
+    {
+        self.objects.len() as u32
+    }
+
+    /// What an object is: also how many slots it has, and of which kinds.
+    #[tactic(auto, using(crate::proofs::Fitting::kinds_there, crate::proofs::Fitting::count_there))]
     pub fn shape(&self, o: ObjRef) -> &Shape
-        requires { (x : Object) × (object_at self.now o ≡ Some x) }
-        ensures { option_map (λ (x : Object). x.shape) (object_at self.now o) ≡ Some result.now }
+        requires { IsSome (object_at self.now o) }
+        ensures shape { shape_at self.now o ≡ Some result.now }
+        ensures count { length (kinds_in self.now o) ≡ slot_count result.now }
+        ensures kinds { kinds_in self.now o ≡ slot_kinds result.now }
     {
         &self.objects[o.0 as usize - 1].shape
     }
 
     /// The value in a slot of an object: of a field, an element, or an item of a list.
+    #[tactic(auto, using(crate::proofs::Fitting::slot_there))]
     pub fn slot(&self, o: ObjRef, at: usize) -> Value
-        requires { (v : Value) × (slot_at self.now o at ≡ Some v) }
-        ensures { slot_at self.now o at ≡ Some result }
+        requires { at < length (kinds_in self.now o) }
+        ensures value { slot_at self.now o at ≡ Some result }
+        ensures kind { slice_get (kinds_in self.now o) at ≡ Some (kind_of result) }
     {
-        let object = &self.objects[o.0 as usize - 1];
-        match &object.shape {
-            Shape::List { items, .. } => items.as_slice()[at],
-            _ => object.slots.as_slice()[at],
-        }
+        self.objects[o.0 as usize - 1].values()[at]
     }
 
     /// Sets a slot of an object to a value of the slot's kind.
-    #[tactic(auto, using(crate::proofs::Changing::set_is_change))]
+    #[tactic(auto, using(crate::proofs::Fitting::slot_there))]
     pub fn set_slot(&mut self, o: ObjRef, at: usize, v: Value)
-        requires { (w : Value) × (slot_at self.old o at ≡ Some w) × (kind_of w ≡ kind_of v) }
-        ensures { self.new ≡ with_changed o (with_slot at v) self.old }
+        requires { slice_get (kinds_in self.old o) at ≡ Some (kind_of v) }
+        ensures set { self.new ≡ with_changed o (with_slot at v) self.old }
+        ensures kinds { (p : ObjRef) → kinds_in self.new p ≡ kinds_in self.old p }
     {
         self.objects[o.0 as usize - 1].set_slot(at, v);
     }
 
     /// Has a mirror stand for something else. Its slots stay as they are.
-    #[tactic(auto, using(crate::proofs::Changing::set_is_change))]
+    #[tactic(auto, using(crate::proofs::Changing::set_is_change, crate::proofs::Fitting::all_with_mirror))]
     pub fn set_mirror(&mut self, o: ObjRef, what: Mirror)
-        requires { (m : Mirror) × (option_and_then mirrored (object_at self.old o) ≡ Some m) }
+        requires { IsSome (mirror_at self.old o) }
         ensures { self.new ≡ with_changed o (with_mirror what) self.old }
     {
         self.objects[o.0 as usize - 1].set_mirror(what);
@@ -137,9 +156,9 @@ impl Heap {
 
     /// Adds units at the end of a text. Full exactly where the slots that they begin would pass the limit; a
     /// refusal changes nothing.
-    #[tactic(auto, using(crate::proofs::Changing::set_is_change))]
+    #[tactic(auto, using(crate::proofs::Changing::set_is_change, crate::proofs::Fitting::all_with_units))]
     pub fn append(&mut self, o: ObjRef, units: &[u16]) -> Result<(), HeapEnd>
-        requires { (text : List ℕ) × (units_at self.old o ≡ Some text) }
+        requires { IsSome (units_at self.old o) }
         ensures full { IsErrOf result Full ↔ IsTrue (is_full self.old (begun_by self.old o units.now)) }
         ensures added { OnOk result (self.new ≡ with_text o units.now self.old) }
         ensures refused { OnErr result (self.new ≡ self.old) }
@@ -155,9 +174,9 @@ impl Heap {
 
     /// Adds an item at the end of a list. Full exactly where its slot would pass the limit; a refusal changes
     /// nothing.
-    #[tactic(auto, using(crate::proofs::Changing::set_is_change))]
+    #[tactic(auto, using(crate::proofs::Changing::set_is_change, crate::proofs::Fitting::all_with_item))]
     pub fn append_item(&mut self, o: ObjRef, v: Value) -> Result<(), HeapEnd>
-        requires { (items : List Value) × (option_and_then list_items (object_at self.old o) ≡ Some items) }
+        requires { IsSome (items_at self.old o) }
         ensures full { IsErrOf result Full ↔ IsTrue (is_full self.old 1) }
         ensures added { OnOk result (self.new ≡ with_listed o v self.old) }
         ensures refused { OnErr result (self.new ≡ self.old) }
@@ -170,9 +189,17 @@ impl Heap {
         Ok(())
     }
 
+    /// Says that each object has the slots of its shape.
+    #[tactic(auto, using(crate::proofs::Fitting::fits_numbered))]
+    pub fn slots_fit(&self)
+        ensures { SlotsFit self.now }
+    {
+        let _ = &self.objects;
+    }
+
     /// The slots that so many more units of a text begin.
     fn begun(&self, o: ObjRef, units: &[u16]) -> u64
-        requires { (text : List ℕ) × (units_at self.now o ≡ Some text) }
+        requires { IsSome (units_at self.now o) }
         ensures { result ≡ begun_by self.now o units.now }
     {
         self.objects[o.0 as usize - 1].begun(units)
@@ -200,6 +227,3 @@ fn first_fields(alloc: Global, fields: &[Kind]) -> Result<Items<Value>, StoreEnd
     push_first(&mut slots, fields)?;
     Ok(Items::from_vec(slots))
 }
-
-#[cfg(test)]
-mod tests;

@@ -22,6 +22,3 @@ pub use shape::{Base, Element, Mirror, Object, Shape};
 pub use statics::{StaticEntry, Statics, Usable};
 pub use store::Store;
 pub use value::{Kind, Value};
-
-#[cfg(test)]
-mod tests;

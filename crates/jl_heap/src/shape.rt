@@ -108,6 +108,16 @@ fn mirror_slots(what: Mirror) -> u64
 }
 
 impl Object {
+    /// The values in the slots.
+    pub(crate) fn values(&self) -> &[Value]
+        ensures { result.now ≡ objects.slots_of self.now }
+    {
+        match &self.shape {
+            Shape::List { items, .. } => items.as_slice(),
+            _ => self.slots.as_slice(),
+        }
+    }
+
     /// Sets a slot: of a field, an element, or an item of a list.
     pub(crate) fn set_slot(&mut self, at: usize, v: Value)
         requires { at < length (objects.slots_of self.old) }

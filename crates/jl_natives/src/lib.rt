@@ -28,6 +28,3 @@ pub use pure_rows::{
     Row16, Row17, Row18, Row19, Row20, Row21,
 };
 pub use script_native::ScriptNative;
-
-#[cfg(test)]
-mod tests;

@@ -1,5 +1,5 @@
-use super::*;
 use jl_names::{Units, plain_of, utf16_of};
+use jl_natives::*;
 use jl_prim::{ErrorKind, Items};
 use std::alloc::Global;
 use std::io;
@@ -361,7 +361,7 @@ fn gives<N: NativeOp>(alloc: Global, native: &mut N, args: &[Shown], answers: &[
 }
 
 #[test]
-#[tactic(auto, unfolding(crate::specs::Table::native_of, crate::specs::Table::gives, crate::specs::Table::is_outside))]
+#[tactic(auto, unfolding(jl_natives::specs::Table::native_of, jl_natives::specs::Table::gives, jl_natives::specs::Table::is_outside))]
 fn scripts(rt: HostRuntime) -> Result<(), Fail> {
     let alloc = rt.alloc();
     let mut millis = ScriptNative::new(

@@ -1,19 +1,14 @@
-ghost use Rattle.std.specs.Prelude.{◌≡◌, is_some, IfOk};
-ghost use Rattle.std.specs.Option.{option_and_then};
-ghost use Rattle.jl_heap.specs.Stores.{IsObject};
-ghost use Rattle.jl_heap.specs.Heap.{object_at, units_at, list_items};
+//! Tests of the heap.
 
-use crate::ends::HeapEnd;
-use crate::heap::Heap;
-use crate::shape::{Base, Element, Mirror, Shape};
-use crate::store::Store;
-use crate::value::{Kind, Value};
+ghost use Rattle.std.specs.Prelude.{IfOk};
+ghost use Rattle.jl_heap.specs.Stores.{IsObject};
+
+use crate::store::CLASS;
+use jl_heap::{Base, Element, Heap, HeapEnd, Kind, Mirror, Shape, Store, Value};
 use jl_names::Units;
 use jl_prim::{ClassId, FieldId, Items, ObjRef};
 use std::alloc::Global;
 use std::test::*;
-
-const CLASS: ClassId = ClassId(7);
 
 const INTS: Element = Element {
     base: Base::Prim(b'I'),
@@ -39,28 +34,20 @@ enum Call {
     Item,
 }
 
-fn is_text(heap: &Heap, o: ObjRef) -> bool
-    ensures { result ≡ is_some (units_at heap.now o) }
-{
-    if o.0 == 0 {
-        return false;
+/// How a text that is there takes so many units more.
+fn grow_text(heap: &mut Heap, units: &[u16]) -> Result<Option<HeapEnd>, Fail> {
+    if heap.has(TEXT) && matches!(heap.shape(TEXT), Shape::Text { .. }) {
+        return Ok(heap.append(TEXT, units).err());
     }
-    match heap.objects.get(o.0 as usize - 1) {
-        Some(object) => matches!(&object.shape, Shape::Text { .. }),
-        None => false,
-    }
+    Err(Fail::new("no text"))
 }
 
-fn is_list(heap: &Heap, o: ObjRef) -> bool
-    ensures { result ≡ is_some (option_and_then list_items (object_at heap.now o)) }
-{
-    if o.0 == 0 {
-        return false;
+/// How a list that is there takes an item more.
+fn grow_list(heap: &mut Heap, item: Value) -> Result<Option<HeapEnd>, Fail> {
+    if heap.has(LIST) && matches!(heap.shape(LIST), Shape::List { .. }) {
+        return Ok(heap.append_item(LIST, item).err());
     }
-    match heap.objects.get(o.0 as usize - 1) {
-        Some(object) => matches!(&object.shape, Shape::List { .. }),
-        None => false,
-    }
+    Err(Fail::new("no list"))
 }
 
 fn instance(alloc: Global, fields: usize) -> Result<Shape, Fail>
@@ -101,17 +88,9 @@ fn passes(alloc: Global, heap: &mut Heap, call: Call) -> Result<bool, Fail> {
     let end = match call {
         Call::Units(n) => {
             let units = vec![in alloc; 97u16; n]?;
-            if !is_text(heap, TEXT) {
-                return Err(Fail::new("no text"));
-            }
-            heap.append(TEXT, units.as_slice()).err()
+            grow_text(heap, units.as_slice())?
         }
-        Call::Item => {
-            if !is_list(heap, LIST) {
-                return Err(Fail::new("no list"));
-            }
-            heap.append_item(LIST, Value::Int(5)).err()
-        }
+        Call::Item => grow_list(heap, Value::Int(5))?,
         _ => heap.alloc(shape_of(alloc, call)?).err(),
     };
     match end {
@@ -161,7 +140,7 @@ fn heap_is_full_where_the_slots_pass_the_limit(rt: HostRuntime) -> Result<(), Fa
         assert_eq!(rt; got, *want, "{call:?}");
     }
     // what is made at the start counts whatever the limit is, and no number is given twice
-    assert!(rt; store.heap.objects.len() == 9);
+    assert!(rt; store.heap.count() == 9);
     let started = store.heap.start(instance(alloc, 0)?)?;
     assert_eq!(rt; started, ObjRef(10));
     assert!(rt; !passes(alloc, &mut store.heap, Call::Units(1))?);
