@@ -1,0 +1,11 @@
+use Rattle.std.proofs.Common.{refl, sym, subst, arith}
+use Rattle.jl_loaders.specs.Loaders.{ParentExists}
+use Rattle.jl_loaders.proofs.Sound.{sound_placed}
+use Rattle.jl_loaders.proofs.loaders.Loaders.place.Goals as goal
+
+pub invariant_of-self : goal.invariant_of-self
+invariant_of-self c = (
+  sound_placed _ _ c.args.parts c.self.invariant.0 (subst (λ s. ParentExists s c.args.parts.parent) (sym c.self.view_is) c.requires.parent) c.push_reserved.ensures.items refl refl,
+  omega arith,
+  omega arith,
+)
