@@ -82,6 +82,22 @@ lead_here s l p x below lt e = by l.0 refl
         ap (λ (o : Option Parts). option_or (had_by o p) (lead_by k s (parent_in o) p)) e
         ∙ ap (option_or (module_for x p)) (same_fuel s p below k (fuel_of x.parent) x.parent (enough k i) (own_fuel k x.parent (enough k i)))
 
+module _ (s : State) (l : LoaderId) (p : List ℕ) (x : Parts) (below : ParentsBelow s.loaders) (lt : 0 < l.0) (e : numbered s.loaders l.0 ≡ Some x) where
+  -- it leads to what it has
+  pub lead_found : (m : ModuleId) → module_for x p ≡ Some m → lead_of s (Loader l) p ≡ Some m
+  lead_found m h = lead_here s l p x below lt e ∙ ap (λ (o : Option ModuleId). option_or o (lead_of s x.parent p)) h
+
+  -- or to where its parent leads
+  pub lead_onward : module_for x p ≡ None → lead_of s x.parent p ≡ lead_of s (Loader l) p
+  lead_onward h = sym (lead_here s l p x below lt e ∙ ap (λ (o : Option ModuleId). option_or o (lead_of s x.parent p)) h)
+
+  pub parent_below : fuel_of x.parent < l.0
+  parent_below = by x.parent refl
+    where
+      by : (q : ParentLoader) → x.parent ≡ q → fuel_of q < l.0
+      by Null i = lt
+      by (Loader r) i = (below l.0 x r e i).1
+
 -- ---- states with the same loaders
 
 pub lead_alike : (f g : State) → g.loaders ≡ f.loaders → g.base ≡ f.base → (n : ℕ) (q : ParentLoader) (p : List ℕ) → lead_by n g q p ≡ lead_by n f q p

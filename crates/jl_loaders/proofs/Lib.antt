@@ -1,4 +1,5 @@
 -- Lemmas.
+pub mod Groups
 pub mod Joined
 pub mod Leads
 pub mod Pairs

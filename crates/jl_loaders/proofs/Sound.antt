@@ -13,7 +13,7 @@ use Rattle.jl_prim.specs.declared.declaration.ParentLoader.TheVariants.{Null, Lo
 use Rattle.jl_loaders.specs.declared.constraint.Constraint.{Constraint}
 use Rattle.jl_loaders.specs.Loaders.{State, Parts, IsLoader, ParentExists, Places, numbered, lead}
 use Rattle.jl_loaders.specs.Constraints.{constraint, IsEntry, IsChain, AreJoined, GroupLeads, IsViolated, with_constraint, Clashes}
-use Rattle.jl_loaders.specs.Joins.{IsGroupLead}
+use Rattle.jl_loaders.specs.Joins.{IsGroupLead, Agree}
 use Rattle.jl_loaders.specs.Laws.{ParentsBelow, AreOfLoaders, AreSound, Grows}
 use Rattle.jl_loaders.specs.Refusals.{IsClash}
 use Rattle.jl_loaders.proofs.Joined.{joined_back, joined_then, joined_kept, joined_cases, joined_over}
@@ -116,12 +116,6 @@ one_lead s name l m n stands (a, j, e) (b, k, f) =
     ⊎_elim (λ i. same_module m n i)
     (λ ne. absurd (stands (name, a, m, n, e, (b, joined_then s.constraints name a l b (joined_back s.constraints name l a j) k, f), λ i. ne (ap (λ (x : ModuleId). x.0) i))))
     (cases_eq m.0 n.0)
-
--- two groups that do not lead to two modules
-abbrev pub Agree : Option ModuleId → Option ModuleId → Type 0
-Agree None y = ⊤
-Agree (Some x) None = ⊤
-Agree (Some x) (Some y) = x ≡ y
 
 agreed : (s : State) (name : List ℕ) (l l2 : LoaderId) (r r2 : Option ModuleId) (m n : ModuleId) → (IsViolated s → ⊥) → IsGroupLead s name l r → IsGroupLead s name l2 r2 → Agree r r2 → GroupLeads s name l m → GroupLeads s name l2 n → m ≡ n
 agreed s name l l2 None r2 m n stands g h agree a b = absurd (g m a)

@@ -4,6 +4,7 @@
 
 mod constraint;
 mod fault;
+mod joins;
 mod law;
 mod loaders;
 mod map;

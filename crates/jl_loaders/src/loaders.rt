@@ -1,19 +1,22 @@
 //! The loaders of all layers.
 
-ghost use Rattle.std.specs.Prelude.{◌≡◌, ◌+◌, ◌<◌, ◌≤◌, [], length, None, Some, OnOk, OnErr, IfOk, IfErr, IfSome};
+ghost use Rattle.std.specs.Prelude.{◌≡◌, ◌+◌, ◌<◌, ◌≤◌, [], length, None, Some, OnOk, OnErr, IfOk, IfErr, IfSome, if◌then◌else◌};
 ghost use Rattle.std.specs.Str.{IsUtf8};
 ghost use Rattle.jl_loaders.specs.Constraints.{IsViolated, with_constraint};
-ghost use Rattle.jl_loaders.specs.Laws.{AreSound};
+ghost use Rattle.jl_loaders.specs.Joins.{AreJoins, IsGroupLead, IsJudged, IsMarkedLead};
+ghost use Rattle.jl_loaders.specs.Laws.{AreSound, ParentsBelow};
 ghost use Rattle.jl_loaders.specs.Loaders.{IsAsBefore, IsLoader, IsMap, ParentExists, Places, numbered};
 ghost use Rattle.jl_loaders.specs.Loaders as leads;
 ghost use Rattle.jl_loaders.specs.Refusals.{IsRefusal};
 
 use crate::constraint::Constraint;
 use crate::fault::{ConstraintFault, LoadersEnd};
+use crate::joins::joins_of;
 use crate::parts::LoaderParts;
+use jl_closure::closure;
 use jl_names::package_of;
-use jl_prim::{LoaderId, ModuleId, Name, ParentLoader};
-use std::alloc::Global;
+use jl_prim::{CopyEnd, Items, LoaderId, ModuleId, Name, ParentLoader};
+use std::alloc::{AllocError, Global};
 use std::marker::Model;
 
 /// The loaders, and the constraints on them. Contracts also see for how many more loaders there is room.
@@ -138,7 +141,8 @@ impl Loaders {
     /// The loader with a number.
     fn numbered(&self, l: LoaderId) -> &LoaderParts
         requires { IsLoader self.now l }
-        ensures { numbered self.now.loaders l.0 ≡ Some result.now }
+        ensures here { numbered self.now.loaders l.0 ≡ Some result.now }
+        ensures below { ParentsBelow self.now.loaders }
     {
         &self.loaders[l.0 as usize - 1]
     }
@@ -169,6 +173,87 @@ impl Loaders {
         ensures stands { OnOk result (IsViolated (with_constraint name.now l l2 self.now) → ⊥) }
         ensures refused { IfErr result (IsRefusal self.now name.now l l2) }
     {
-        Err(ConstraintFault::NoMemory)
+        let text = name_of(*self.loaders.allocator(), name)?;
+        let rows = self.joins(name)?;
+        let one = self.led_to(rows.as_slice(), name, l)?;
+        let other = self.led_to(rows.as_slice(), name, l2)?;
+        self.stay_sound();
+        judged(text, one, other)
+    }
+
+    /// For each loader the places of those that an entry of the name joins to it.
+    fn joins(&self, name: &[u8]) -> Result<Vec<Items<usize>>, AllocError>
+        ensures { IfOk result (λ rows. AreJoins (length self.now.loaders) self.now.constraints name.now rows.items) }
+    {
+        joins_of(
+            *self.loaders.allocator(),
+            self.loaders.len(),
+            self.constraints.as_slice(),
+            name,
+        )
+    }
+
+    /// The module to which the loaders that are joined with this one lead the name, if they lead anywhere.
+    fn led_to(
+        &self,
+        rows: &[Items<usize>],
+        name: &[u8],
+        l: LoaderId,
+    ) -> Result<Option<ModuleId>, AllocError>
+        requires rows { AreJoins (length self.now.loaders) self.now.constraints name.now rows.now }
+        requires loader { IsLoader self.now l }
+        ensures { IfOk result (IsGroupLead self.now name.now l) }
+    {
+        let start = l.0 as usize - 1;
+        let marks = closure(*self.loaders.allocator(), rows, &[start])?;
+        Ok(self.marked_lead(marks.as_slice(), name))
+    }
+
+    /// The lead of the first marked loader that leads the name anywhere.
+    fn marked_lead(&self, marks: &[bool], name: &[u8]) -> Option<ModuleId>
+        requires { length marks.now ≡ length self.now.loaders }
+        ensures { IsMarkedLead self.now marks.now name.now result }
+    {
+        for at in 0..self.loaders.len() {
+            if let Some(m) = self.lead_if(marks[at], LoaderId(at as u32 + 1), name) {
+                return Some(m);
+            }
+        }
+        None
+    }
+
+    /// The lead of a loader, if it is marked.
+    fn lead_if(&self, is_marked: bool, l: LoaderId, name: &[u8]) -> Option<ModuleId>
+        requires { IsLoader self.now l }
+        ensures { result ≡ (if is_marked then leads.lead self.now l name.now else None) }
+    {
+        if is_marked { self.lead(l, name) } else { None }
+    }
+}
+
+/// The name that a text is.
+fn name_of(alloc: Global, text: &[u8]) -> Result<Name, CopyEnd>
+    requires { IsUtf8 text.now }
+    ensures { IfOk result (λ n. n ≡ text.now) }
+{
+    match str::from_utf8(text) {
+        Ok(text) => Name::from_text(alloc, text),
+        Err(_) => unreachable!(),
+    }
+}
+
+/// The name of a constraint on two groups, unless they lead to two modules.
+fn judged(
+    name: Name,
+    one: Option<ModuleId>,
+    other: Option<ModuleId>,
+) -> Result<Name, ConstraintFault>
+    ensures { IsJudged name one other result }
+{
+    match (one, other) {
+        (Some(one), Some(other)) if one != other => {
+            Err(ConstraintFault::Clash { name, one, other })
+        }
+        _ => Ok(name),
     }
 }
