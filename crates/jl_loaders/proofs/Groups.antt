@@ -1,12 +1,13 @@
 -- Rows of places against chains of entries: what is marked is joined, and where a group leads.
-use Rattle.std.proofs.Common.{◌≡◌, ◌≢◌, ◌⊎◌, ◌<◌, ◌≤◌, ◌+◌, ◌-◌, ℕ, zero, suc, List, [], ◌∷◌, ◌++◌, length, get_or, set, replicate, slice_get, take, inl, inr, ⊎_elim, refl, sym, ◌∙◌, ap, subst, All, Option, Some, None, Result, Ok, Err, Bool, true, arith, get_or-set_same, get_or-set_other}
+use Rattle.std.proofs.Common.{◌≡◌, ◌≢◌, ◌⊎◌, ◌<◌, ◌≤◌, ◌+◌, ◌-◌, ℕ, zero, suc, List, [], ◌∷◌, ◌++◌, length, get_or, slice_get, take, inl, inr, ⊎_elim, refl, sym, ◌∙◌, ap, subst, All, Option, Some, None, Result, Ok, Err, Bool, true, false, true≢false, arith, get_or-set_same, get_or-set_other}
 use Rattle.std.specs.Prelude.{Contains, IfOk, IfErr, OnOk, ⊤}
 use Rattle.std.proofs.Math.ListN.{length-set}
 use Rattle.std.proofs.lemmas.Bool.{cases_eq}
-use Rattle.std.proofs.lemmas.List.{get_or_default, length-replicate, take_more, take_all}
+use Rattle.std.proofs.lemmas.List.{get_or_default, take_more}
 use Rattle.std.proofs.lemmas.List.Elements.{All-from_recursion, Contains-append_left, Contains-push, Contains-push_cases}
-use Rattle.std.proofs.lemmas.Option.{slice_get_within}
-use Rattle.jl_logic.proofs.Rising.{each_from_members, contains_nothing}
+use Rattle.std.specs.Cmp.Lexicographic.{bytes_decides}
+use Rattle.jl_logic.specs.Order.{is_text}
+use Rattle.jl_logic.proofs.Rising.{each_from_members}
 use Rattle.jl_logic.proofs.Apart.{single}
 use Rattle.jl_closure.specs.Reached.{Chain, IsReached}
 use Rattle.jl_prim.specs.declared.numbers.ModuleId.{ModuleId}
@@ -55,17 +56,19 @@ pushed_new rows at v lt = subst (λ (l : List ℕ). Contains l v) (sym (get_or-s
 
 -- ---- rows of joins
 
-none_at : (n p : ℕ) → get_or (replicate n ([] {A = ℕ})) p [] ≡ []
-none_at zero p = refl
-none_at (suc n) zero = refl
-none_at (suc n) (suc p) = none_at n p
+-- a name that is the same text, or another
+pub is_named : (a b n : List ℕ) (r : Bool) → a ≡ n → r ≡ is_text a b → r ≡ true → n ≡ b
+is_named a b n r e f g = sym e ∙ (bytes_decides a b).0 (sym f ∙ g)
 
-pub joins_none : (count : ℕ) (name : List ℕ) (rows : List (List ℕ)) → rows ≡ replicate count [] → AreJoins count [] name rows
-joins_none count name rows e = record {
-  one_each = ap length e ∙ length-replicate count [];
-  only = λ p q c. contains_nothing q (subst (λ (l : List ℕ). Contains l q) (ap (λ (r : List (List ℕ)). get_or r p []) e ∙ none_at count p) c);
-  all = λ p q c. ⊎_elim (λ k. contains_nothing (constraint name (loader_at p) (loader_at q)) k) (λ k. contains_nothing (constraint name (loader_at q) (loader_at p)) k) c;
-}
+pub not_named : (a b n : List ℕ) (r : Bool) → a ≡ n → r ≡ is_text a b → r ≡ false → n ≡ b → ⊥
+not_named a b n r e f g h = let t : is_text a b ≡ true = (bytes_decides a b).1 (e ∙ h) in true≢false (sym t ∙ sym f ∙ g)
+
+-- the item of a loop's step
+pub item_of : {X : Type 0} (xs : List X) (i : ℕ) (x : X) → i < length xs → x ≡ get_or xs i x → Contains xs x
+item_of xs i x lt e = (i, lt, sym e)
+
+pub one_more : {X : Type 0} (xs : List X) (i : ℕ) (x : X) → i < length xs → x ≡ get_or xs i x → take i xs ++ x ∷ [] ≡ take (i + 1) xs
+one_more xs i x lt e = sym (take_more xs i x lt ∙ ap (λ y. take i xs ++ y ∷ []) (sym e))
 
 module _ (count : ℕ) (cs : List Constraint) (name : List ℕ) (rows : List (List ℕ)) (c : Constraint) (joins : AreJoins count cs name rows) where
   -- an entry of another name
