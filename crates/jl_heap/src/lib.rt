@@ -18,7 +18,7 @@ pub use frames::Frames;
 pub use heap::Heap;
 pub use kept::{Kept, KeptKey};
 pub use law::{objects_stay, shapes_stay, slots_are_counted};
-pub use shape::{Base, Element, Mirror, Object, Shape};
+pub use shape::{Base, Element, Mirror, Object, Shape, element_kind};
 pub use statics::{StaticEntry, Statics, Usable};
 pub use store::Store;
 pub use value::{Kind, Value};
