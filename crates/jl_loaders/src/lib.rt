@@ -14,3 +14,6 @@ pub use fault::{ConstraintFault, LoadersEnd};
 pub use law::{are_sound, leads_stay};
 pub use loaders::Loaders;
 pub use parts::LoaderParts;
+
+#[cfg(test)]
+mod tests;

@@ -113,12 +113,7 @@ impl Loaders {
 
     /// Adds that two loaders must not lead the class of a name to two modules (JVMS 5.3.4). `Clash` comes exactly
     /// where, with this constraint, joined loaders would; nothing changes then, nor without memory.
-    pub fn impose(
-        &mut self,
-        name: &[u8],
-        l: LoaderId,
-        l2: LoaderId,
-    ) -> Result<(), ConstraintFault>
+    pub fn impose(&mut self, name: &[u8], l: LoaderId, l2: LoaderId) -> Result<(), ConstraintFault>
         requires text { IsUtf8 name.now }
         requires one { IsLoader self.old l }
         requires other { IsLoader self.old l2 }

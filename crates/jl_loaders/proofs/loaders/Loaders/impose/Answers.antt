@@ -10,14 +10,13 @@ invariant_of-self-2 c =
     let g : State = record { loaders = c.self.inside.loaders.items; base = c.self.inside.base; constraints = c.push.new.self.items; spare = c.self.inside.spare } in
     let name = c.args.name.now in
     let is : g ≡ with_constraint name c.args.l c.args.l2 s =
-        ap (λ cs. let x : State = record { loaders = s.loaders; base = s.base; constraints = cs; spare = s.spare } in x)
-        (c.in_ok-push.ensures.items ∙ ap (λ (n : List ℕ). s.constraints ++ constraint n c.args.l c.args.l2 ∷ []) c.in_ok-name.ensures.named) in
-    (
+    ap (λ cs. let x : State = record { loaders = s.loaders; base = s.base; constraints = cs; spare = s.spare } in x)
+    (c.in_ok-push.ensures.items ∙ ap (λ (n : List ℕ). s.constraints ++ constraint n c.args.l c.args.l2 ∷ []) c.in_ok-name.ensures.named) in (
       sound_imposed s g name c.args.l c.args.l2 c.self.invariant.0
-      (subst (λ w. IsLoader w c.args.l) (sym c.self.view_is) c.requires.one)
-      (subst (λ w. IsLoader w c.args.l2) (sym c.self.view_is) c.requires.other)
-      (subst (λ w. IsViolated (with_constraint name c.args.l c.args.l2 w) → ⊥) (sym c.self.view_is) c.in_ok-name.ensures.stands)
-      is,
+          (subst (λ w. IsLoader w c.args.l) (sym c.self.view_is) c.requires.one)
+          (subst (λ w. IsLoader w c.args.l2) (sym c.self.view_is) c.requires.other)
+          (subst (λ w. IsViolated (with_constraint name c.args.l c.args.l2 w) → ⊥) (sym c.self.view_is) c.in_ok-name.ensures.stands)
+          is,
       c.self.invariant.1,
       c.self.invariant.2,
     )
