@@ -1,6 +1,6 @@
 -- Rows of places against chains of entries: what is marked is joined, and where a group leads.
-use Rattle.std.proofs.Common.{◌≡◌, ◌≢◌, ◌⊎◌, ◌<◌, ◌≤◌, ◌+◌, ◌-◌, ℕ, zero, suc, List, [], ◌∷◌, ◌++◌, length, get_or, slice_get, take, inl, inr, ⊎_elim, refl, sym, ◌∙◌, ap, subst, All, Option, Some, None, Result, Ok, Err, Bool, true, false, true≢false, arith, get_or-set_same, get_or-set_other}
-use Rattle.std.specs.Prelude.{Contains, IfOk, IfErr, OnOk, ⊤}
+use Rattle.std.proofs.Common.{◌≡◌, ◌⊎◌, ◌<◌, ◌+◌, ◌-◌, ℕ, zero, suc, List, [], ◌∷◌, ◌++◌, length, get_or, slice_get, take, inl, inr, ⊎_elim, refl, sym, ◌∙◌, ap, subst, All, Option, Some, None, Result, Ok, Err, Bool, true, false, true≢false, arith, get_or-set_same, get_or-set_other}
+use Rattle.std.specs.Prelude.{Contains, IfOk, IfErr, OnOk}
 use Rattle.std.proofs.Math.ListN.{length-set}
 use Rattle.std.proofs.lemmas.Bool.{cases_eq}
 use Rattle.std.proofs.lemmas.List.{get_or_default, take_more}
@@ -16,7 +16,7 @@ use Rattle.jl_loaders.specs.declared.constraint.Constraint.{Constraint}
 use Rattle.jl_loaders.specs.declared.fault.ConstraintFault.{ConstraintFault}
 use Rattle.jl_loaders.specs.declared.fault.ConstraintFault.TheVariants.{Clash, NoMemory}
 use Rattle.jl_loaders.specs.Loaders.{State, lead}
-use Rattle.jl_loaders.specs.Constraints.{constraint, IsEntry, IsChain, AreJoined, GroupLeads, IsViolated, with_constraint}
+use Rattle.jl_loaders.specs.Constraints.{constraint, IsEntry, IsChain, GroupLeads, IsViolated, with_constraint}
 use Rattle.jl_loaders.specs.Joins.{loader_at, IsWithin, AreWithin, AreJoins, with_place, with_join, IsMarkedLead, IsGroupLead, IsJudged}
 use Rattle.jl_loaders.specs.Refusals.{IsRefusal}
 use Rattle.jl_loaders.proofs.Joined.{entry_cases, entry_kept}

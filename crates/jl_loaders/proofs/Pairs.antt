@@ -1,11 +1,11 @@
 -- Packages and their modules: what a sort, and the first pair of each package, keep, and a search among pairs that rise.
-use Rattle.std.proofs.Common.{◌≡◌, ◌<◌, ◌≤◌, ◌+◌, ℕ, zero, suc, List, [], ◌∷◌, ◌++◌, length, get_or, ⊎_elim, refl, sym, ◌∙◌, ap, ap₂, subst, Option, Some, None, Result, Ok, Err, Bool, true, false, cond, ◌&&◌, not, Ordering, Less, Equal, Greater, arith, add-one}
+use Rattle.std.proofs.Common.{◌≡◌, ◌<◌, ℕ, zero, suc, List, [], ◌∷◌, ◌++◌, length, get_or, ⊎_elim, refl, sym, ◌∙◌, ap, ap₂, subst, Option, Some, None, Err, Bool, true, false, cond, ◌&&◌, not, Ordering, Less, Equal, Greater, arith, add-one}
 use Rattle.std.specs.List.{dedup, dedup_from, filter, AllByRecursion}
 use Rattle.std.specs.Option.{option_or}
-use Rattle.std.specs.Ordering.{is_lt, is_eq, ordering_reverse, eq_by_cmp}
+use Rattle.std.specs.Ordering.{is_lt, is_eq, ordering_reverse}
 use Rattle.std.specs.Cmp.{IsTotalOrder, IsStrictWeakOrder}
 use Rattle.std.specs.Cmp.Lexicographic.{bytes_decides, texts_ties, nat_list_cmp_total}
-use Rattle.std.specs.List.Sorted.{IsSorted, IsSortedBy, IsStable, IsStrictlySortedBy, IsBinarySearchResult, IsSearchInRange, ties}
+use Rattle.std.specs.List.Sorted.{IsSorted, IsSortedBy, IsStable, IsStrictlySortedBy, IsBinarySearchResult, ties}
 use Rattle.std.proofs.lemmas.Cmp.{on_total}
 use Rattle.std.proofs.lemmas.Bool.{cases_lt}
 use Rattle.std.proofs.lemmas.List.Kept.{IsStrictlySortedBy-dedup}
@@ -13,7 +13,7 @@ use Rattle.std.proofs.lemmas.List.Sorted.{ranks_by, searchable_from_sorted}
 use Rattle.jl_logic.specs.Order.{is_text, name_cmp, RisesBy}
 use Rattle.jl_prim.specs.declared.numbers.ModuleId.{ModuleId}
 use Rattle.jl_loaders.specs.Loaders.{given_for, package_cmp}
-use Rattle.jl_loaders.specs.Maps.{is_package, IsSortedPairs}
+use Rattle.jl_loaders.specs.Maps.{is_package}
 
 abbrev pub Pair : Type 0
 Pair = List ℕ × ModuleId

@@ -9,8 +9,8 @@ use Rattle.jl_prim.specs.declared.numbers.LoaderId.{LoaderId}
 use Rattle.jl_prim.specs.declared.declaration.ParentLoader.{ParentLoader}
 use Rattle.jl_prim.specs.declared.declaration.ParentLoader.TheVariants.{Null, Loader}
 use Rattle.jl_loaders.specs.declared.constraint.Constraint.{Constraint}
-use Rattle.jl_loaders.specs.Loaders.{State, Parts, IsMap, given_for, module_for, lead, lead_by}
-use Rattle.jl_loaders.specs.Constraints.{constraint, IsEntry, GroupLeads, IsViolated, with_constraint, Clashes}
+use Rattle.jl_loaders.specs.Loaders.{State, Parts, IsMap, lead, lead_by}
+use Rattle.jl_loaders.specs.Constraints.{constraint, IsEntry, IsViolated, with_constraint, Clashes}
 
 abbrev m : ℕ → ModuleId
 m n = record { 0 = n }

@@ -1,22 +1,21 @@
 -- Constraints that stand go on to stand, and what one more makes of them.
-use Rattle.std.proofs.Common.{◌≡◌, ◌≢◌, ◌⊎◌, ◌<◌, ◌≤◌, ◌+◌, ℕ, zero, suc, List, [], ◌∷◌, ◌++◌, length, length-append, Option, Some, None, inl, inr, ⊎_elim, refl, sym, ◌∙◌, ap, subst, arith}
-use Rattle.std.specs.Prelude.{Contains, ⊤}
+use Rattle.std.proofs.Common.{◌≡◌, ◌≢◌, ◌⊎◌, ◌<◌, ◌≤◌, ◌+◌, ℕ, zero, suc, List, [], ◌∷◌, ◌++◌, length, length-append, Option, Some, None, ⊎_elim, refl, sym, ◌∙◌, ap, subst, arith}
+use Rattle.std.specs.Prelude.{Contains}
 use Rattle.std.proofs.lemmas.Bool.{cases_eq, cases_lt}
 use Rattle.std.proofs.lemmas.List.{append-nil, append_assoc}
 use Rattle.std.proofs.lemmas.List.Elements.{Contains-push_cases}
-use Rattle.jl_logic.specs.Lists.{IsFront}
 use Rattle.jl_names.specs.Names.{package_of}
 use Rattle.jl_prim.specs.declared.numbers.ModuleId.{ModuleId}
 use Rattle.jl_prim.specs.declared.numbers.LoaderId.{LoaderId}
 use Rattle.jl_prim.specs.declared.declaration.ParentLoader.{ParentLoader}
-use Rattle.jl_prim.specs.declared.declaration.ParentLoader.TheVariants.{Null, Loader}
+use Rattle.jl_prim.specs.declared.declaration.ParentLoader.TheVariants.{Loader}
 use Rattle.jl_loaders.specs.declared.constraint.Constraint.{Constraint}
-use Rattle.jl_loaders.specs.Loaders.{State, Parts, IsLoader, ParentExists, Places, numbered, lead}
-use Rattle.jl_loaders.specs.Constraints.{constraint, IsEntry, IsChain, AreJoined, GroupLeads, IsViolated, with_constraint, Clashes}
+use Rattle.jl_loaders.specs.Loaders.{State, Parts, IsLoader, ParentExists, numbered, lead}
+use Rattle.jl_loaders.specs.Constraints.{constraint, IsEntry, IsChain, AreJoined, GroupLeads, IsViolated, with_constraint}
 use Rattle.jl_loaders.specs.Joins.{IsGroupLead, Agree}
 use Rattle.jl_loaders.specs.Laws.{ParentsBelow, AreOfLoaders, AreSound, Grows}
 use Rattle.jl_loaders.specs.Refusals.{IsClash}
-use Rattle.jl_loaders.proofs.Joined.{joined_back, joined_then, joined_kept, joined_cases, joined_over}
+use Rattle.jl_loaders.proofs.Joined.{joined_back, joined_then, joined_cases, joined_over}
 use Rattle.jl_loaders.proofs.Leads.{lead_stays, lead_alike, kept_number}
 
 -- ---- growth

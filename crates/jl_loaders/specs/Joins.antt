@@ -1,5 +1,5 @@
 -- Loaders that entries of a name join, as rows of places (JVMS 5.3.4). No public clause cites these.
-use Rattle.std.specs.Prelude.{◌≡◌, ◌≢◌, ◌<◌, ◌≤◌, ◌+◌, ◌-◌, ℕ, List, [], ◌∷◌, ◌++◌, length, Option, None, Some, Result, Ok, Err, Bool, true, Contains, MatchOption, slice_get, slice_set, slice_index_or, ⊤}
+use Rattle.std.specs.Prelude.{◌≡◌, ◌≢◌, ◌<◌, ◌≤◌, ◌+◌, ◌-◌, ℕ, List, [], ◌∷◌, ◌++◌, length, Option, None, Some, Result, Ok, Err, Bool, true, Contains, slice_get, slice_set, slice_index_or, ⊤}
 use Rattle.jl_prim.specs.declared.numbers.ModuleId.{ModuleId}
 use Rattle.jl_prim.specs.declared.numbers.LoaderId.{LoaderId}
 use Rattle.jl_loaders.specs.declared.constraint.Constraint.{Constraint}

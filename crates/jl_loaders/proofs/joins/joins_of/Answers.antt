@@ -1,4 +1,4 @@
-use Rattle.std.proofs.Common.{◌≡◌, ◌∙◌, ◌++◌, ◌∷◌, [], List, length, take, sym, subst, ◌+◌, arith}
+use Rattle.std.proofs.Common.{◌≡◌, ◌∙◌, ◌++◌, ◌∷◌, [], List, take, sym, subst, ◌+◌, arith}
 use Rattle.jl_loaders.specs.declared.constraint.Constraint.{Constraint}
 use Rattle.jl_loaders.specs.Joins.{AreJoins}
 use Rattle.jl_loaders.proofs.Groups.{is_named, not_named, item_of, one_more, joins_skip, joins_more}

@@ -1,4 +1,4 @@
-use Rattle.std.proofs.Common.{◌≡◌, ◌∙◌, ◌++◌, List, ap, ap₂, sym, subst}
+use Rattle.std.proofs.Common.{◌∙◌, ◌++◌, List, ap, ap₂, sym, subst}
 use Rattle.jl_logic.specs.Order.{RisesBy}
 use Rattle.jl_loaders.specs.Loaders.{given_for, package_cmp}
 use Rattle.jl_loaders.proofs.Pairs.{Pair, dedup_rises, given_dedup, given_sorted}

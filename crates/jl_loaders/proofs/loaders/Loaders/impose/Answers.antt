@@ -1,4 +1,4 @@
-use Rattle.std.proofs.Common.{◌≡◌, ◌++◌, ◌∷◌, [], List, ℕ, ap, refl, sym, subst, ◌∙◌}
+use Rattle.std.proofs.Common.{◌≡◌, ◌++◌, ◌∷◌, [], List, ℕ, ap, sym, subst, ◌∙◌}
 use Rattle.jl_loaders.specs.Loaders.{State, IsLoader}
 use Rattle.jl_loaders.specs.Constraints.{constraint, with_constraint, IsViolated}
 use Rattle.jl_loaders.proofs.Sound.{sound_imposed}

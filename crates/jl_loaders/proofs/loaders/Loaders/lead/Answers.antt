@@ -1,6 +1,5 @@
-use Rattle.std.proofs.Common.{◌≡◌, ◌∙◌, ◌<◌, ap, sym, subst, List, ℕ}
+use Rattle.std.proofs.Common.{◌∙◌, ◌<◌, ap, sym, subst}
 use Rattle.jl_prim.specs.declared.declaration.ParentLoader.{ParentLoader}
-use Rattle.jl_prim.specs.declared.declaration.ParentLoader.TheVariants.{Loader}
 use Rattle.jl_loaders.specs.Loaders.{IsLoader, ParentExists}
 use Rattle.jl_loaders.proofs.Leads.{fuel_of, lead_of, lead_found, lead_onward, null_lead, parent_below, parent_is_there}
 use Rattle.jl_loaders.proofs.loaders.Loaders.lead.Goals as goal

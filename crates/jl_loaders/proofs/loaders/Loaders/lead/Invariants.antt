@@ -1,5 +1,4 @@
 use Rattle.std.proofs.Common.{◌≡◌}
-use Rattle.jl_names.specs.Names.{package_of}
 use Rattle.jl_loaders.specs.Loaders.{ParentExists, lead}
 use Rattle.jl_loaders.proofs.Leads.{fuel_of, lead_of}
 use Rattle.jl_loaders.proofs.loaders.Loaders.lead.Given as goal

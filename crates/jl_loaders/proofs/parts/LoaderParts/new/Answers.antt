@@ -1,4 +1,4 @@
-use Rattle.std.proofs.Common.{◌∙◌, ◌++◌, List, ap₂, sym}
+use Rattle.std.proofs.Common.{◌∙◌, List, ap₂, sym}
 use Rattle.std.specs.Option.{option_or}
 use Rattle.jl_loaders.specs.Loaders.{given_for}
 use Rattle.jl_loaders.proofs.Pairs.{Pair, given_append}
