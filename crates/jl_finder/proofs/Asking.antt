@@ -14,14 +14,14 @@ use Rattle.jl_finder.specs.declared.fault.FindFault.{FindFault}
 use Rattle.jl_finder.specs.declared.fault.FindFault.TheVariants as finds
 use Rattle.jl_finder.specs.Paths.{path_in}
 
-abbrev Asked : Type 0
+abbrev pub Asked : Type 0
 Asked = Option (List (List ℕ))
 
 asked_none : (o : Asked) → o ≡ asked_at o []
 asked_none None = refl
 asked_none (Some ps) = ap Some (sym (append-nil ps))
 
-asked_twice : (o : Asked) (ps qs : List (List ℕ)) → asked_at (asked_at o ps) qs ≡ asked_at o (ps ++ qs)
+pub asked_twice : (o : Asked) (ps qs : List (List ℕ)) → asked_at (asked_at o ps) qs ≡ asked_at o (ps ++ qs)
 asked_twice None ps qs = refl
 asked_twice (Some xs) ps qs = ap Some (append_assoc xs (map declaration_in ps) (map declaration_in qs) ∙ ap (λ t. xs ++ t) (sym (map-append declaration_in ps qs)))
 

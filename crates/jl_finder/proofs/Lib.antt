@@ -7,5 +7,6 @@ pub mod Scans
 pub mod Firsts
 pub mod Elements
 pub mod Asking
+pub mod UntilFault
 pub mod Laws
 mod Rows

@@ -68,7 +68,7 @@ told_large o files place file packages e k h q = fails_as (told e) (whole_conten
 
 -- ---- class files beside it
 
-found_none : (p : Entry → Bool) (es : List Entry) → find p es ≡ None → filter p es ≡ []
+pub found_none : (p : Entry → Bool) (es : List Entry) → find p es ≡ None → filter p es ≡ []
 found_none p [] h = refl
 found_none p (e ∷ es) h = by (p e) (found_none p es) h
   where
@@ -76,7 +76,7 @@ found_none p (e ∷ es) h = by (p e) (found_none p es) h
     by true later k = absurd cc
     by false later k = later k
 
-found_some : (p : Entry → Bool) (es : List Entry) (x : Entry) → find p es ≡ Some x → (rest : List Entry) × (filter p es ≡ x ∷ rest)
+pub found_some : (p : Entry → Bool) (es : List Entry) (x : Entry) → find p es ≡ Some x → (rest : List Entry) × (filter p es ≡ x ∷ rest)
 found_some p [] x h = absurd cc
 found_some p (e ∷ es) x h = by (p e) (found_some p es x) h
   where
@@ -99,14 +99,14 @@ one_beside files place es x path h n q =
 
 -- ---- a module is counted, walked and read
 
-walked_fails : (files : List File) (place : List ℕ) (t : Tally) (f : FindFault) → walked_from files place t.folders ≡ Err f → with_folders (length (folders_below files place)) t ≡ Err f
+pub walked_fails : (files : List File) (place : List ℕ) (t : Tally) (f : FindFault) → walked_from files place t.folders ≡ Err f → with_folders (length (folders_below files place)) t ≡ Err f
 walked_fails files place t f h = by (nat_lt most_folders (t.folders + length (folders_below files place))) h
   where
     by : (b : Bool) → cond {A = Result (List (List ℕ) × ℕ) FindFault} b (Err finds.TooMany) (Ok (packages_below files place, t.folders + length (folders_below files place))) ≡ Err f → cond b (Err finds.TooMany) (Ok (record t { folders = t.folders + length (folders_below files place) })) ≡ Err f
     by true k = let q : finds.TooMany ≡ f = cc in ap (λ x. Err x) q
     by false k = absurd cc
 
-walked_well : (files : List File) (place : List ℕ) (t : Tally) (packages : List (List ℕ)) (n : ℕ) → walked_from files place t.folders ≡ Ok (packages, n)
+pub walked_well : (files : List File) (place : List ℕ) (t : Tally) (packages : List (List ℕ)) (n : ℕ) → walked_from files place t.folders ≡ Ok (packages, n)
     → (packages ≡ packages_below files place) × (with_folders (length (folders_below files place)) t ≡ Ok (record t { folders = n }))
 walked_well files place t packages n h = by (nat_lt most_folders (t.folders + length (folders_below files place))) h
   where

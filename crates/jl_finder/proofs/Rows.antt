@@ -10,7 +10,8 @@ use Rattle.jl_prim.specs.declared.declaration.Declaration.{Declaration}
 use Rattle.jl_modinfo.specs.Reading.{info_of}
 use Rattle.jl_logic.specs.Order.{is_text}
 use Rattle.std.specs.List.{flat_map}
-use Rattle.jl_finder.specs.Asking.{places_of}
+use Rattle.jl_modinfo.specs.declared.fault.InfoFault.{InfoFault}
+use Rattle.jl_finder.specs.Asking.{places_of, reads_of, reads_of_elements, reads_of_entries}
 use Rattle.jl_finder.proofs.Members.{is_name}
 
 -- ---- limits
@@ -90,3 +91,32 @@ places-in-order : flat_map (places_of (empty-file (codes "m/b/module-info.class"
     ≡ codes "m/a" ∷ codes "m/b" ∷ codes "m/b" ∷ []
 unfolding entries_in_order put_entry
 places-in-order = refl
+
+-- ---- what is read until the first fault
+
+class-beside-unread : reads_of (empty-file (codes "m/X.class") ∷ empty-file (codes "m/module-info.class") ∷ []) (codes "m" ∷ []) ≡ []
+unfolding reads_of_elements scan_listed scan_module entries_in_order put_entry fronts put_name in_order
+class-beside-unread = refl
+
+module _ (bytes : List ℕ) (d : Declaration) (small : nat_lt most_file_bytes (length bytes) ≡ false) (declares : info_of bytes [] ≡ Ok d) where
+  abbrev file : List ℕ → File
+  file path = record { path = path; bytes = bytes }
+
+  unread-behind-archive : reads_of (file (codes "m/a/module-info.class") ∷ []) (codes "m" ∷ codes "x.jar" ∷ codes "m" ∷ []) ≡ codes "m/a" ∷ []
+  unfolding reads_of_elements reads_of_entries scan_listed scan_entries scan_folder scan_module entries_in_order put_entry fronts put_name in_order
+  unread-behind-archive = rw (small, declares) refl
+
+  name-again : is_text d.name d.name ≡ true
+  name-again = is_name d.name d.name refl
+
+  second-of-a-name-is-last : reads_of (file (codes "m/p/module-info.class") ∷ file (codes "m/q/module-info.class") ∷ file (codes "m/r/module-info.class") ∷ []) (codes "m" ∷ []) ≡ codes "m/p" ∷ codes "m/q" ∷ []
+  unfolding reads_of_elements reads_of_entries scan_listed scan_entries scan_folder scan_module entries_in_order put_entry fronts put_name in_order
+  second-of-a-name-is-last = rw (small, declares, name-again) refl
+
+module _ (bytes : List ℕ) (f : InfoFault) (small : nat_lt most_file_bytes (length bytes) ≡ false) (faulty : info_of bytes [] ≡ Err f) where
+  abbrev faulty-file : List ℕ → File
+  faulty-file path = record { path = path; bytes = bytes }
+
+  faulty-is-last : reads_of (faulty-file (codes "m/a/module-info.class") ∷ faulty-file (codes "m/b/module-info.class") ∷ []) (codes "m" ∷ []) ≡ codes "m/a" ∷ []
+  unfolding reads_of_elements reads_of_entries scan_listed scan_entries scan_folder scan_module entries_in_order put_entry fronts put_name in_order
+  faulty-is-last = rw (small, faulty) refl

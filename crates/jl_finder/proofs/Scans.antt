@@ -41,7 +41,7 @@ folder_done files place es t c o n h k d m = folder_module files place es t c h 
 -- ---- the entries of a directory in turn
 
 -- an entry's part of the definition, by what it holds
-entry_is : (files : List File) (dir : List ℕ) (e : Entry) (done : List Observed) (t : Tally) → scan_entry files dir e done t ≡ (entry_found files dir e t >>= with_found dir done)
+pub entry_is : (files : List File) (dir : List ℕ) (e : Entry) (done : List Observed) (t : Tally) → scan_entry files dir e done t ≡ (entry_found files dir e t >>= with_found dir done)
 unfolding scan_folder
 entry_is files dir e done t = by (is_archive e.name) e.is_dir
   where

@@ -9,7 +9,7 @@ ghost use Rattle.jl_finder.specs.Paths as paths;
 ghost use Rattle.jl_finder.specs.Observed.{told, scan_entries, Tally, name_of, among};
 ghost use Rattle.jl_finder.specs.Scanning.{tally_of, folder_found, entry_found, with_found};
 ghost use Rattle.std.specs.List.{flat_map};
-ghost use Rattle.jl_finder.specs.Asking.{faults_with, IsNotRead, TellsInside, AsksUpTo, asked_at, place_in, place_at};
+ghost use Rattle.jl_finder.specs.Asking.{faults_with, IsNotRead, TellsInside, AsksUpTo, Asks, asked_at, place_in, place_at, reads_of_entries, reads_of_entry, reads_of_folder};
 
 use crate::counts::{Counts, one_folder};
 use crate::fault::FindFault;
@@ -37,6 +37,7 @@ pub fn scan_directory<T: Tree>(
     ensures inside { IfErr result TellsInside }
     ensures asks { (files : List File) → T.files tree.old ≡ Some files → AsksUpTo (T.asked tree.old) (flat_map (place_in files dir.now) entries.now) (T.asked tree.new) }
     ensures asked { (files : List File) → T.files tree.old ≡ Some files → IfOk result (λ _. T.asked tree.new ≡ asked_at (T.asked tree.old) (flat_map (place_in files dir.now) entries.now)) }
+    ensures reads { (files : List File) → T.files tree.old ≡ Some files → Asks result (T.asked tree.old) (reads_of_entries files dir.now entries.now [] (tally_of counts)) (T.asked tree.new) }
 {
     let mut kept = Kept {
         names: IndexSet::new(alloc),
@@ -115,6 +116,7 @@ fn scan_entry<T: Tree>(
     ensures untouched { IsTrue (paths.is_archive entry.now.name) → tree.new ≡ tree.old }
     ensures asks { (files : List File) → T.files tree.old ≡ Some files → AsksUpTo (T.asked tree.old) (place_in files dir.now entry.now) (T.asked tree.new) }
     ensures asked { (files : List File) → T.files tree.old ≡ Some files → IfOk result (λ _. T.asked tree.new ≡ asked_at (T.asked tree.old) (place_in files dir.now entry.now)) }
+    ensures reads { (files : List File) → T.files tree.old ≡ Some files → Asks result (T.asked tree.old) (reads_of_entry files dir.now entry.now (tally_of counts)) (T.asked tree.new) }
 {
     if is_archive(entry.name.as_bytes()) {
         let path = path_in(alloc, dir, entry.name.as_str())?;
@@ -142,6 +144,7 @@ fn scan_folder<T: Tree>(
     ensures inside { IfErr result TellsInside }
     ensures asks { (files : List File) → T.files tree.old ≡ Some files → AsksUpTo (T.asked tree.old) (place_at files place) (T.asked tree.new) }
     ensures asked { (files : List File) → T.files tree.old ≡ Some files → IfOk result (λ _. T.asked tree.new ≡ asked_at (T.asked tree.old) (place_at files place)) }
+    ensures reads { (files : List File) → T.files tree.old ≡ Some files → Asks result (T.asked tree.old) (reads_of_folder files place (tally_of counts)) (T.asked tree.new) }
 {
     let counted = one_folder(counts)?;
     let entries = entries_or_none(alloc, tree, &place)?;

@@ -1,15 +1,15 @@
 //! All elements of a module path in order.
 
-ghost use Rattle.std.specs.Prelude.{◌≡◌, ◌≤◌, List, [], Some, IfOk, IfSome, IsErrOf, IfErr, IsTrue, MatchResult};
+ghost use Rattle.std.specs.Prelude.{◌≡◌, ◌≤◌, ℕ, ◌∷◌, List, [], Some, IfOk, IfSome, IsErrOf, IfErr, IsTrue, MatchResult};
 ghost use Rattle.jl_logic.specs.Answers.{Gives};
 ghost use Rattle.jl_logic.specs.Counts.{Rose};
 ghost use Rattle.jl_tree.specs.Files.{File};
 ghost use Rattle.jl_finder.specs.Paths as paths;
 ghost use Rattle.jl_finder.specs.Observed as observed;
-ghost use Rattle.jl_finder.specs.Observed.{told, observed};
+ghost use Rattle.jl_finder.specs.Observed.{told, observed, with_folders};
 ghost use Rattle.jl_finder.specs.Scanning.{AreEntries, tally_of, listed_found, elements_found};
 ghost use Rattle.std.specs.List.{flat_map};
-ghost use Rattle.jl_finder.specs.Asking.{faults_with, TellsInside, AsksUpTo, asked_at, places_of};
+ghost use Rattle.jl_finder.specs.Asking.{faults_with, TellsInside, AsksUpTo, Asks, asked_at, places_of, reads_behind, reads_of, reads_of_element, reads_of_listed};
 
 use crate::counts::{Counts, one_folder};
 use crate::directory::scan_directory;
@@ -37,6 +37,8 @@ pub fn find_all<T: Tree>(alloc: Global, tree: &mut T, elements: &[Name]) -> Resu
     ensures inside { IfErr result TellsInside }
     ensures asks { (files : List File) → T.files tree.old ≡ Some files → AsksUpTo (T.asked tree.old) (flat_map (places_of files) elements.now) (T.asked tree.new) }
     ensures asked { (files : List File) → T.files tree.old ≡ Some files → IfOk result (λ _. T.asked tree.new ≡ asked_at (T.asked tree.old) (flat_map (places_of files) elements.now)) }
+    ensures reads { (files : List File) → T.files tree.old ≡ Some files → Asks result (T.asked tree.old) (reads_of files elements.now) (T.asked tree.new) }
+    ensures untouched { (element : List ℕ) (rest : List (List ℕ)) → elements.now ≡ element ∷ rest → IsTrue (paths.is_archive element) → tree.new ≡ tree.old }
 {
     let modules = scan_elements(alloc, tree, elements)?;
     let kept = first_of_each(alloc, modules)?;
@@ -59,6 +61,8 @@ fn scan_elements<T: Tree>(
     ensures inside { IfErr result TellsInside }
     ensures asks { (files : List File) → T.files tree.old ≡ Some files → AsksUpTo (T.asked tree.old) (flat_map (places_of files) elements.now) (T.asked tree.new) }
     ensures asked { (files : List File) → T.files tree.old ≡ Some files → IfOk result (λ _. T.asked tree.new ≡ asked_at (T.asked tree.old) (flat_map (places_of files) elements.now)) }
+    ensures reads { (files : List File) → T.files tree.old ≡ Some files → Asks result (T.asked tree.old) (reads_of files elements.now) (T.asked tree.new) }
+    ensures untouched { (element : List ℕ) (rest : List (List ℕ)) → elements.now ≡ element ∷ rest → IsTrue (paths.is_archive element) → tree.new ≡ tree.old }
 {
     let mut modules = Vec::new(alloc);
     let mut counts = Counts {
@@ -88,8 +92,10 @@ fn scan_element<T: Tree>(
     ensures exact { IsTrue T.counts_exactly → MatchResult result (λ _. T.faults tree.new ≡ T.faults tree.old) (λ e. T.faults tree.new ≡ faults_with e (T.faults tree.old)) }
     ensures inside { IfErr result TellsInside }
     ensures untouched { IsTrue (paths.is_archive element.now) → tree.new ≡ tree.old }
+    ensures refused { IsTrue (paths.is_archive element.now) → IfOk result (λ _. ⊥) }
     ensures asks { (files : List File) → T.files tree.old ≡ Some files → AsksUpTo (T.asked tree.old) (places_of files element.now) (T.asked tree.new) }
     ensures asked { (files : List File) → T.files tree.old ≡ Some files → IfOk result (λ _. T.asked tree.new ≡ asked_at (T.asked tree.old) (places_of files element.now)) }
+    ensures reads { (files : List File) → T.files tree.old ≡ Some files → Asks result (T.asked tree.old) (reads_of_element files element.now (tally_of counts)) (T.asked tree.new) }
 {
     if is_archive(element.as_bytes()) {
         return Err(FindFault::Archive(element.copy()?));
@@ -116,6 +122,7 @@ fn scan_listed<T: Tree>(
     ensures inside { IfErr result TellsInside }
     ensures asks { (files : List File) → T.files tree.old ≡ Some files → AreEntries files element.now entries.now → AsksUpTo (T.asked tree.old) (places_of files element.now) (T.asked tree.new) }
     ensures asked { (files : List File) → T.files tree.old ≡ Some files → AreEntries files element.now entries.now → IfOk result (λ _. T.asked tree.new ≡ asked_at (T.asked tree.old) (places_of files element.now)) }
+    ensures reads { (files : List File) → T.files tree.old ≡ Some files → AreEntries files element.now entries.now → Asks result (T.asked tree.old) (reads_behind (with_folders 1 (tally_of counts)) (reads_of_listed files element.now)) (T.asked tree.new) }
 {
     let counted = one_folder(counts)?;
     if !declares(entries) {

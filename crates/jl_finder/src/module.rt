@@ -1,15 +1,15 @@
 //! One module.
 
-ghost use Rattle.std.specs.Prelude.{◌≡◌, ◌≤◌, List, Some, IfSome, IsErrOf, option_map, IfErr, IfOk, IsTrue, MatchResult, ◌∷◌, [], ◌⊎◌};
+ghost use Rattle.std.specs.Prelude.{◌≡◌, ◌≤◌, List, Some, IfSome, IsErrOf, option_map, IfErr, IfOk, IsTrue, MatchResult, MatchOption, ⊤, ◌∷◌, [], ◌⊎◌};
 ghost use Rattle.jl_logic.specs.Answers.{Gives};
 ghost use Rattle.jl_logic.specs.Counts.{Rose};
 ghost use Rattle.jl_tree.specs.Files.{File, file_at, asked_for};
 ghost use Rattle.jl_modinfo.specs.Reading.{info_of};
-ghost use Rattle.jl_finder.specs.Folders.{declaration_in, packages_below};
+ghost use Rattle.jl_finder.specs.Folders.{declaration_in, packages_below, top_classes};
 ghost use Rattle.jl_finder.specs.Observed as observed;
 ghost use Rattle.jl_finder.specs.Observed.{told, observed_or, declared_by, content_of};
 ghost use Rattle.jl_finder.specs.Scanning.{AreEntries, tally_of, whole_content};
-ghost use Rattle.jl_finder.specs.Asking.{faults_with, IsNotRead, TellsInside, AsksUpTo, asked_at};
+ghost use Rattle.jl_finder.specs.Asking.{faults_with, IsNotRead, TellsInside, AsksUpTo, Asks, asked_at, reads_beside, reads_of_module};
 
 use crate::counts::{Counts, one_module};
 use crate::fault::FindFault;
@@ -37,6 +37,7 @@ pub fn scan_module<T: Tree>(
     ensures inside { IfErr result TellsInside }
     ensures asks { AsksUpTo (T.asked tree.old) (place ∷ []) (T.asked tree.new) }
     ensures asked { IfOk result (λ _. T.asked tree.new ≡ asked_at (T.asked tree.old) (place ∷ [])) }
+    ensures reads { (files : List File) → T.files tree.old ≡ Some files → AreEntries files place entries.now → Asks result (T.asked tree.old) (reads_of_module files place (tally_of counts)) (T.asked tree.new) }
 {
     let counted = one_module(counts)?;
     let walked = walk(alloc, tree, &place, entries, counted.folders)?;
@@ -64,6 +65,7 @@ fn module_at<T: Tree>(
     ensures inside { IfErr result TellsInside }
     ensures asks { AsksUpTo (T.asked tree.old) (place ∷ []) (T.asked tree.new) }
     ensures asked { IfOk result (λ _. T.asked tree.new ≡ asked_at (T.asked tree.old) (place ∷ [])) }
+    ensures reads { (files : List File) → T.files tree.old ≡ Some files → AreEntries files place entries.now → Asks result (T.asked tree.old) (reads_beside place (top_classes files place)) (T.asked tree.new) }
 {
     match first_top_class(entries) {
         Some(class) => {
@@ -89,6 +91,7 @@ fn read_module<T: Tree>(
     ensures inside { IfErr result TellsInside }
     ensures asks { AsksUpTo (T.asked tree.old) (place ∷ []) (T.asked tree.new) }
     ensures asked { IfOk result (λ _. T.asked tree.new ≡ asked_at (T.asked tree.old) (place ∷ [])) }
+    ensures reads { Asks result (T.asked tree.old) (place ∷ []) (T.asked tree.new) }
 {
     let file = path_in(alloc, &place, "module-info.class")?;
     let content = content_at(alloc, tree, &file)?;
@@ -112,6 +115,7 @@ fn content_at<T: Tree>(
     ensures inside { IfErr result TellsInside }
     ensures asks { (T.asked tree.new ≡ T.asked tree.old) ⊎ (T.asked tree.new ≡ asked_for (T.asked tree.old) file.now) }
     ensures asked { IfOk result (λ _. T.asked tree.new ≡ asked_for (T.asked tree.old) file.now) }
+    ensures asked_told { IfErr result (λ e. MatchOption (told e) ⊤ (λ _. T.asked tree.new ≡ asked_for (T.asked tree.old) file.now)) }
 {
     match tree.read(alloc, file, MOST_FILE_BYTES) {
         Ok(content) => Ok(content),
