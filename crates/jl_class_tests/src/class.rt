@@ -69,7 +69,7 @@ fn cut_files(rt: HostRuntime) -> Result<(), Fail> {
 
 #[test]
 fn edits_of_the_smallest_file(rt: HostRuntime) -> Result<(), Fail> {
-    let rows = [
+    static ROWS: [&str; 35] = [
         "0 0 - -> read",
         "0 1 00 -> Magic",
         "7 1 3f -> Version(63, 0)",
@@ -109,12 +109,12 @@ fn edits_of_the_smallest_file(rt: HostRuntime) -> Result<(), Fail> {
         "53 2 0001000100000001 -> Short(61)",
         "55 0 00 -> Trailing",
     ];
-    all_come(rt.alloc(), &SMALLEST, &rows)
+    all_come(rt.alloc(), &SMALLEST, &ROWS)
 }
 
 #[test]
 fn fields(rt: HostRuntime) -> Result<(), Fail> {
-    let rows = [
+    static ROWS: [&str; 21] = [
         "0 0 - -> read",
         // two accesses, and a field of an interface
         "216 2 0003 -> Flags(216)",
@@ -139,12 +139,12 @@ fn fields(rt: HostRuntime) -> Result<(), Fail> {
         "214 2 0002; 232 0 000800050006 -> RepeatedMember(x)",
         "214 2 0002; 232 0 0000000500190000 -> read",
     ];
-    all_come(rt.alloc(), &FILLED, &rows)
+    all_come(rt.alloc(), &FILLED, &ROWS)
 }
 
 #[test]
 fn constants(rt: HostRuntime) -> Result<(), Fail> {
-    let rows = [
+    static ROWS: [&str; 32] = [
         "226 4 00000001 -> Attribute(224)",
         "226 4 00000003 -> Attribute(224)",
         "226 4 00000000 -> Attribute(224)",
@@ -181,12 +181,12 @@ fn constants(rt: HostRuntime) -> Result<(), Fail> {
         "216 2 0000; 230 2 0005 -> Attribute(224)",
         "216 2 0000; 230 2 0000 -> Attribute(224)",
     ];
-    all_come(rt.alloc(), &FILLED, &rows)
+    all_come(rt.alloc(), &FILLED, &ROWS)
 }
 
 #[test]
 fn methods(rt: HostRuntime) -> Result<(), Fail> {
-    let rows = [
+    static ROWS: [&str; 35] = [
         // two accesses, and an abstract method that is static or private
         "234 2 0003 -> Flags(234)",
         "234 2 0005 -> Flags(234)",
@@ -227,12 +227,12 @@ fn methods(rt: HostRuntime) -> Result<(), Fail> {
         "242 2 0002 -> Attribute(242)",
         "244 4 ffffffff -> Short(248)",
     ];
-    all_come(rt.alloc(), &FILLED, &rows)
+    all_come(rt.alloc(), &FILLED, &ROWS)
 }
 
 #[test]
 fn codes(rt: HostRuntime) -> Result<(), Fail> {
-    let rows = [
+    static ROWS: [&str; 28] = [
         // no code, no handlers, other attributes and no frames
         "244 4 0000001b; 252 5 00000000 -> read",
         "244 4 00000014; 257 10 0000 -> read",
@@ -265,19 +265,19 @@ fn codes(rt: HostRuntime) -> Result<(), Fail> {
         "267 2 0002; 244 4 0000001e; 276 0 000c -> Attribute(276)",
         "267 2 0002; 244 4 00000022; 276 0 000b00000000 -> read",
     ];
-    all_come(rt.alloc(), &FILLED, &rows)
+    all_come(rt.alloc(), &FILLED, &ROWS)
 }
 
 #[test]
 fn attributes_of_a_class(rt: HostRuntime) -> Result<(), Fail> {
-    let rows = [
+    static ROWS: [&str; 5] = [
         "278 2 0002 -> Attribute(278)",
         "278 2 000a -> read",
         "276 8 0002000a00000000000a00000000 -> read",
         "280 4 00000001 -> Short(284)",
         "284 0 00 -> Trailing",
     ];
-    all_come(rt.alloc(), &FILLED, &rows)
+    all_come(rt.alloc(), &FILLED, &ROWS)
 }
 
 /// What a file declares, but for its pool.

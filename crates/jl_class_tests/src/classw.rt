@@ -238,7 +238,7 @@ const BUILT: [&str; 9] = [
 fn a_class_is_built_and_written(rt: HostRuntime) -> Result<(), Fail> {
     let alloc = rt.alloc();
     let mut b = smallest(alloc)?;
-    let rows = [
+    static ROWS: [&str; 24] = [
         "interface p/I -> added",
         "field 24 x I int 7 -> added",
         "field 24 l J long 1 -> added",
@@ -265,7 +265,7 @@ fn a_class_is_built_and_written(rt: HostRuntime) -> Result<(), Fail> {
         "method 257 k ()V with 0 -> refused",
         "method 1 m ()V with 0 -> refused",
     ];
-    all_taken(alloc, &mut b, &rows)?;
+    all_taken(alloc, &mut b, &ROWS)?;
     let class = b.finish()?;
     let bytes = write_class(alloc, &class)?;
     let want = bytes_of_lines(alloc, &BUILT)?;
@@ -349,11 +349,11 @@ fn interfaces_are_counted_by_two_bytes(rt: HostRuntime) -> Result<(), Fail> {
 fn handlers_are_counted_by_two_bytes(rt: HostRuntime) -> Result<(), Fail> {
     let alloc = rt.alloc();
     let mut b = smallest(alloc)?;
-    let rows = [
+    static ROWS: [&str; 2] = [
         "method 1 m ()V with 65536 -> TooMany(handlers)",
         "method 1 m ()V with 65535 -> added",
     ];
-    all_taken(alloc, &mut b, &rows)?;
+    all_taken(alloc, &mut b, &ROWS)?;
     let class = b.finish()?;
     assert_eq!(rt; class.methods().len(), 1);
     assert_eq!(rt; class.pool().entries().len(), 9);
@@ -368,7 +368,7 @@ fn entries_are_counted_by_two_bytes(rt: HostRuntime) -> Result<(), Fail> {
     for n in 0..32765u16 {
         entered(alloc, &mut b, format!(in alloc; "class C{n}")?.as_str())?;
     }
-    let rows = [
+    static ROWS: [&str; 6] = [
         "int 7 -> TooMany(pool)",
         "field 1 x I -> TooMany(pool)",
         "interface p/I -> TooMany(pool)",
@@ -376,7 +376,7 @@ fn entries_are_counted_by_two_bytes(rt: HostRuntime) -> Result<(), Fail> {
         "class C32764 -> 65534",
         "interface C1 -> added",
     ];
-    all_taken(alloc, &mut b, &rows)?;
+    all_taken(alloc, &mut b, &ROWS)?;
     assert_eq!(rt; b.finish()?.pool().entries().len(), 65535);
     Ok(())
 }

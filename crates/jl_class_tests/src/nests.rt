@@ -35,7 +35,7 @@ fn all_declare(alloc: Global, rows: &[&str]) -> Result<(), Fail> {
 
 #[test]
 fn versions(rt: HostRuntime) -> Result<(), Fail> {
-    let rows = [
+    static ROWS: [&str; 9] = [
         "4 4 ffff0036 -> read",
         "7 1 37 -> read",
         "4 4 00010037 -> read",
@@ -46,12 +46,12 @@ fn versions(rt: HostRuntime) -> Result<(), Fail> {
         "7 1 3e -> Version(62, 0)",
         "4 4 00000137 -> Version(311, 0)",
     ];
-    all_come(rt.alloc(), &SMALLEST, &rows)
+    all_come(rt.alloc(), &SMALLEST, &ROWS)
 }
 
 #[test]
 fn hosts_and_members(rt: HostRuntime) -> Result<(), Fail> {
-    let declared = [
+    static DECLARED: [&str; 9] = [
         "0 0 - -> None [] None",
         "132 2 0001 0005 00000002 000c -> Some(p/B) [] None",
         "132 2 0001 0006 00000002 0000 -> None [] None",
@@ -63,8 +63,8 @@ fn hosts_and_members(rt: HostRuntime) -> Result<(), Fail> {
         "7 1 36; 132 2 0002 0005 00000002 000c 0005 00000002 000c -> None [] None",
         "7 1 36; 132 2 0002 0005 00000002 000c 0006 00000002 0000 -> None [] None",
     ];
-    all_declare(rt.alloc(), &declared)?;
-    let faults = [
+    all_declare(rt.alloc(), &DECLARED)?;
+    static FAULTS: [&str; 17] = [
         // a host of a wrong length, and of a wrong index
         "132 2 0001 0005 00000000 -> Attribute(134)",
         "132 2 0001 0005 00000001 00 -> Attribute(134)",
@@ -86,12 +86,12 @@ fn hosts_and_members(rt: HostRuntime) -> Result<(), Fail> {
         "132 2 0002 0006 00000002 0000 0005 -> Attribute(142)",
         "132 2 0003 0005 00000002 000c 0009 00000000 0006 -> Attribute(148)",
     ];
-    all_come(rt.alloc(), &NESTED, &faults)
+    all_come(rt.alloc(), &NESTED, &FAULTS)
 }
 
 #[test]
 fn records(rt: HostRuntime) -> Result<(), Fail> {
-    let rows = [
+    static ROWS: [&str; 21] = [
         "7 1 3c; 132 2 0001 0007 00000002 0000 -> read",
         "7 1 3c; 132 2 0001 0007 00000008 0001 0009 000a 0000 -> read",
         "7 1 3c; 132 2 0001 0007 0000000e 0002 0009 000a 0000 0009 000a 0000 -> read",
@@ -118,12 +118,12 @@ fn records(rt: HostRuntime) -> Result<(), Fail> {
         "7 1 3c; 132 2 0001 0007 0000000e 0001 0009 000a 0001 0009 00000001 -> Attribute(148)",
         "7 1 3c; 132 2 0001 0007 0000000e 0001 0009 000a 0001 0009 ffffffff -> Attribute(148)",
     ];
-    all_come(rt.alloc(), &NESTED, &rows)
+    all_come(rt.alloc(), &NESTED, &ROWS)
 }
 
 #[test]
 fn permitted_subclasses(rt: HostRuntime) -> Result<(), Fail> {
-    let declared = [
+    static DECLARED: [&str; 5] = [
         "7 1 3d; 132 2 0001 0008 00000002 0000 -> None [] Some([])",
         "7 1 3d; 132 2 0001 0008 00000006 0002 000c 0002 -> None [] Some([p/B, p/A])",
         "7 1 3d; 132 2 0002 0008 00000004 0001 000c 0005 00000002 0002 -> Some(p/A) [] Some([p/B])",
@@ -131,8 +131,8 @@ fn permitted_subclasses(rt: HostRuntime) -> Result<(), Fail> {
         "7 1 3c; 132 2 0001 0008 00000004 0001 000c -> None [] None",
         "7 1 3c; 120 2 0031; 132 2 0001 0008 00000001 00 -> None [] None",
     ];
-    all_declare(rt.alloc(), &declared)?;
-    let faults = [
+    all_declare(rt.alloc(), &DECLARED)?;
+    static FAULTS: [&str; 7] = [
         // in a final class
         "7 1 3d; 120 2 0031; 132 2 0001 0008 00000004 0001 000c -> Attribute(134)",
         "7 1 3d; 120 2 0031; 132 2 0001 0008 ffffffff -> Attribute(134)",
@@ -142,7 +142,7 @@ fn permitted_subclasses(rt: HostRuntime) -> Result<(), Fail> {
         "7 1 3d; 132 2 0001 0008 00000004 0001 0009 -> Attribute(134)",
         "7 1 3d; 132 2 0002 0008 00000002 0000 0008 -> Attribute(142)",
     ];
-    all_come(rt.alloc(), &NESTED, &faults)
+    all_come(rt.alloc(), &NESTED, &FAULTS)
 }
 
 /// What is read is written so that it is read again. A record is written without its components.

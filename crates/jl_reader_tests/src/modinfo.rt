@@ -76,7 +76,7 @@ fn cut_files(rt: HostRuntime) -> Result<(), Fail> {
 
 #[test]
 fn edits_of_the_smallest_file(rt: HostRuntime) -> Result<(), Fail> {
-    let rows = [
+    static ROWS: [&str; 39] = [
         "3 1 bf -> BadMagic",
         "7 1 34 -> BadVersion",
         "7 1 36 -> read",
@@ -117,12 +117,12 @@ fn edits_of_the_smallest_file(rt: HostRuntime) -> Result<(), Fail> {
         "84 8 0000; 77 1 10 -> BaseRule",
         "100 0 00; 77 1 17 -> Trailing",
     ];
-    all_come(rt.alloc(), &SMALLEST, &rows)
+    all_come(rt.alloc(), &SMALLEST, &ROWS)
 }
 
 #[test]
 fn indices_of_wrong_entries(rt: HostRuntime) -> Result<(), Fail> {
-    let rows = [
+    static ROWS: [&str; 23] = [
         "248 2 000c -> BadIndex(248)",
         "254 2 000c -> BadIndex(254)",
         "254 2 0024 -> BadIndex(254)",
@@ -147,12 +147,12 @@ fn indices_of_wrong_entries(rt: HostRuntime) -> Result<(), Fail> {
         "256 2 0020 -> BadIndex(300)",
         "332 2 0000 -> BadIndex(332)",
     ];
-    all_come(rt.alloc(), &WHOLE, &rows)
+    all_come(rt.alloc(), &WHOLE, &ROWS)
 }
 
 #[test]
 fn names_that_repeat(rt: HostRuntime) -> Result<(), Fail> {
-    let rows = [
+    static ROWS: [&str; 12] = [
         "274 2 0006 -> Repeated(requires, java.base)",
         "274 2 0008 -> Repeated(requires, java.logging)",
         "288 2 000c -> Repeated(exports, p)",
@@ -166,12 +166,12 @@ fn names_that_repeat(rt: HostRuntime) -> Result<(), Fail> {
         "358 2 0020 -> Repeated(attributes, ModulePackages)",
         "358 2 0021 -> Repeated(attributes, ModuleMainClass)",
     ];
-    all_come(rt.alloc(), &WHOLE, &rows)
+    all_come(rt.alloc(), &WHOLE, &ROWS)
 }
 
 #[test]
 fn rules_and_ends(rt: HostRuntime) -> Result<(), Fail> {
-    let rows = [
+    static ROWS: [&str; 17] = [
         "0 0 - -> read",
         "254 2 0006 -> BaseRule",
         "262 2 0010 -> BaseRule",
@@ -190,7 +190,7 @@ fn rules_and_ends(rt: HostRuntime) -> Result<(), Fail> {
         "352 4 00000001 -> Short(356)",
         "342 2 0004 -> Short(350)",
     ];
-    all_come(rt.alloc(), &WHOLE, &rows)
+    all_come(rt.alloc(), &WHOLE, &ROWS)
 }
 
 /// Name, version, whether it is open, and what is required.

@@ -43,7 +43,7 @@ fn entries_of_each_tag(rt: HostRuntime) -> Result<(), Fail> {
     let alloc = rt.alloc();
     let bytes = bytes_in(alloc, EACH)?;
     let (pool, _) = read_pool(alloc, &bytes, 0)?;
-    let rows = [
+    static ROWS: [&str; 21] = [
         "tag None",
         "Some(a)",
         "Some(-1)",
@@ -67,8 +67,8 @@ fn entries_of_each_tag(rt: HostRuntime) -> Result<(), Fail> {
         "tag None",
     ];
     let mut i = 0;
-    for want in rows {
-        assert_eq!(rt; shown(alloc, &pool, i)?.as_str(), want, "at {i}");
+    for want in &ROWS {
+        assert_eq!(rt; shown(alloc, &pool, i)?.as_str(), *want, "at {i}");
         i = i.wrapping_add(1);
     }
     Ok(())
@@ -122,7 +122,7 @@ fn cut_pools(rt: HostRuntime) -> Result<(), Fail> {
 #[test]
 fn pools_and_their_faults(rt: HostRuntime) -> Result<(), Fail> {
     let alloc = rt.alloc();
-    let rows = [
+    static ROWS: [(&str, &str); 32] = [
         ("0000 01", "to 2"),
         ("0001 01", "to 2"),
         (SMALLEST, "to 50"),
@@ -161,10 +161,10 @@ fn pools_and_their_faults(rt: HostRuntime) -> Result<(), Fail> {
         ("0004 =a 070001 080002", "Entry(3)"),
         ("0003 070009 07", "Short(6)"),
     ];
-    for (line, want) in rows {
+    for (line, want) in &ROWS {
         assert_eq!(rt;
             outcome(alloc, &bytes_in(alloc, line)?)?.as_str(),
-            want,
+            *want,
             "{line}"
         );
     }
