@@ -1,7 +1,7 @@
 //! Tests of jl_class.
 
 use jl_class::{ClassDecl, read_class};
-use jl_making::{bytes_of_lines, edited_in, same};
+use jl_making::{bytes_of_lines, case_of, comes, edited_in, same};
 use std::alloc::Global;
 use std::test::*;
 
@@ -38,11 +38,8 @@ fn outcome(alloc: Global, file: &[u8]) -> Result<String, Fail> {
 pub fn all_come(alloc: Global, lines: &[&str], rows: &[&str]) -> Result<(), Fail> {
     let file = bytes_of_lines(alloc, lines)?;
     for row in rows {
-        let (edits, want) = row.split_once(" -> ").ok_or("a row")?;
-        let found = outcome(alloc, &edited_in(alloc, &file, edits)?)?;
-        if found.as_str() != want {
-            return Err(Fail::new(format_args!("{found} and not {row}")));
-        }
+        let (edited, want) = case_of(alloc, &file, row)?;
+        comes(row, outcome(alloc, &edited)?.as_str(), want)?;
     }
     Ok(())
 }

@@ -11,7 +11,7 @@ use jl_classw::{
     are_method_flags, describes_a_field, describes_method, has_code, is_short, is_small,
     is_superclass, may_extend, may_have, names_method, write_class,
 };
-use jl_making::{bytes_of_lines, same};
+use jl_making::{bytes_of_lines, comes, same};
 use jl_names::{is_class_name, is_field_name, utf16_of};
 use jl_prim::{Handler, Items, Name};
 use std::alloc::Global;
@@ -205,10 +205,7 @@ fn step(alloc: Global, b: &mut ClassBuilder, line: &str) -> Result<String, Fail>
 fn all_taken(alloc: Global, b: &mut ClassBuilder, rows: &[&str]) -> Result<(), Fail> {
     for row in rows {
         let (line, want) = row.split_once(" -> ").ok_or("a step")?;
-        let found = step(alloc, b, line)?;
-        if found.as_str() != want {
-            return Err(Fail::new(format_args!("{found} and not {row}")));
-        }
+        comes(row, step(alloc, b, line)?.as_str(), want)?;
     }
     Ok(())
 }

@@ -52,6 +52,12 @@ pub fn edited_in(alloc: Global, file: &[u8], edits: &str) -> Result<Vec<u8>, Fai
     Ok(bytes)
 }
 
+/// The bytes after the edits of a row, and what the row says behind ` -> ` comes of them.
+pub fn case_of<'a>(alloc: Global, file: &[u8], row: &'a str) -> Result<(Vec<u8>, &'a str), Fail> {
+    let (edits, want) = row.split_once(" -> ").ok_or("a row")?;
+    Ok((edited_in(alloc, file, edits)?, want))
+}
+
 fn push_word(bytes: &mut Vec<u8>, word: &str) -> Result<(), Fail> {
     if let Some(text) = word.strip_prefix('\'') {
         bytes.extend_from_slice(text.as_bytes())?;

@@ -77,3 +77,11 @@ pub fn same(got: &str, want: &str) -> Result<(), Fail> {
     }
     Err(Fail::new(format_args!("{got:?} in place of {want:?}")))
 }
+
+/// That what comes of a row is what it wants.
+pub fn comes(row: &str, got: &str, want: &str) -> Result<(), Fail> {
+    if got == want {
+        return Ok(());
+    }
+    Err(Fail::new(format_args!("{got} and not {row}")))
+}

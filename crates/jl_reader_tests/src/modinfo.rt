@@ -1,6 +1,6 @@
 //! Tests of jl_modinfo.
 
-use jl_making::{bytes_of_lines, declaration, edited_in, file_of};
+use jl_making::{bytes_of_lines, case_of, comes, declaration, edited_in, file_of};
 use jl_modinfo::{files_keep_rules, is_writable, read_info, reads_longer, write_info};
 use jl_prim::{Declaration, Name};
 use std::alloc::Global;
@@ -38,11 +38,8 @@ fn outcome(alloc: Global, file: &[u8]) -> Result<String, Fail> {
 fn all_come(alloc: Global, lines: &[&str], rows: &[&str]) -> Result<(), Fail> {
     let file = bytes_of_lines(alloc, lines)?;
     for row in rows {
-        let (edits, want) = row.split_once(" -> ").ok_or("a row")?;
-        let found = outcome(alloc, &edited_in(alloc, &file, edits)?)?;
-        if found.as_str() != want {
-            return Err(Fail::new(format_args!("{found} and not {row}")));
-        }
+        let (edited, want) = case_of(alloc, &file, row)?;
+        comes(row, outcome(alloc, &edited)?.as_str(), want)?;
     }
     Ok(())
 }
