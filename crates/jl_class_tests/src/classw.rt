@@ -170,24 +170,41 @@ fn with_method(alloc: Global, b: &mut ClassBuilder, line: &str) -> Result<String
     }
 }
 
-/// The index of a class, of a field by class, name and descriptor, or of an Integer.
-fn entered(alloc: Global, b: &mut ClassBuilder, line: &str) -> Result<String, Fail> {
-    let entry = match line.split_once(' ') {
-        Some(("class", name)) => NewEntry::Class(named(alloc, name)?),
-        Some(("int", number)) => NewEntry::Constant(Constant::Int(number.parse()?)),
-        _ => {
-            let (_, name, desc, class) = parts(line)?;
-            NewEntry::Member {
-                tag: 9,
-                class: named(alloc, class)?,
-                name: named(alloc, name)?,
-                desc: named(alloc, desc)?,
-            }
-        }
-    };
-    match b.entry(entry) {
+/// What came of entering something: its index, or the fault.
+fn told_index(alloc: Global, entered: Result<u16, WriteFault>) -> Result<String, Fail> {
+    match entered {
         Ok(index) => Ok(format!(in alloc; "{index}")?),
         Err(fault) => Ok(format!(in alloc; "{fault:?}")?),
+    }
+}
+
+/// The index of a field by a number, which says nothing, its name, its descriptor and its class.
+fn field_entered(alloc: Global, b: &mut ClassBuilder, line: &str) -> Result<String, Fail> {
+    let (_, name, desc, class) = parts(line)?;
+    let class = named(alloc, class)?;
+    let name = named(alloc, name)?;
+    let desc = named(alloc, desc)?;
+    let entry = NewEntry::Member {
+        tag: 9,
+        class,
+        name,
+        desc,
+    };
+    told_index(alloc, b.entry(entry))
+}
+
+/// The index of a class, of an Integer, or of a field.
+fn entered(alloc: Global, b: &mut ClassBuilder, line: &str) -> Result<String, Fail> {
+    match line.split_once(' ') {
+        Some(("class", name)) => {
+            let name = named(alloc, name)?;
+            told_index(alloc, b.entry(NewEntry::Class(name)))
+        }
+        Some(("int", number)) => {
+            let number = number.parse()?;
+            told_index(alloc, b.entry(NewEntry::Constant(Constant::Int(number))))
+        }
+        _ => field_entered(alloc, b, line),
     }
 }
 
