@@ -51,7 +51,7 @@ fn versions(rt: HostRuntime) -> Result<(), Fail> {
 
 #[test]
 fn hosts_and_members(rt: HostRuntime) -> Result<(), Fail> {
-    static DECLARED: [&str; 9] = [
+    static ROWS: [&str; 9] = [
         "0 0 - -> None [] None",
         "132 2 0001 0005 00000002 000c -> Some(p/B) [] None",
         "132 2 0001 0006 00000002 0000 -> None [] None",
@@ -63,7 +63,7 @@ fn hosts_and_members(rt: HostRuntime) -> Result<(), Fail> {
         "7 1 36; 132 2 0002 0005 00000002 000c 0005 00000002 000c -> None [] None",
         "7 1 36; 132 2 0002 0005 00000002 000c 0006 00000002 0000 -> None [] None",
     ];
-    all_declare(rt.alloc(), &DECLARED)?;
+    all_declare(rt.alloc(), &ROWS)?;
     static FAULTS: [&str; 17] = [
         // a host of a wrong length, and of a wrong index
         "132 2 0001 0005 00000000 -> Attribute(134)",
@@ -123,7 +123,7 @@ fn records(rt: HostRuntime) -> Result<(), Fail> {
 
 #[test]
 fn permitted_subclasses(rt: HostRuntime) -> Result<(), Fail> {
-    static DECLARED: [&str; 5] = [
+    static ROWS: [&str; 5] = [
         "7 1 3d; 132 2 0001 0008 00000002 0000 -> None [] Some([])",
         "7 1 3d; 132 2 0001 0008 00000006 0002 000c 0002 -> None [] Some([p/B, p/A])",
         "7 1 3d; 132 2 0002 0008 00000004 0001 000c 0005 00000002 0002 -> Some(p/A) [] Some([p/B])",
@@ -131,7 +131,7 @@ fn permitted_subclasses(rt: HostRuntime) -> Result<(), Fail> {
         "7 1 3c; 132 2 0001 0008 00000004 0001 000c -> None [] None",
         "7 1 3c; 120 2 0031; 132 2 0001 0008 00000001 00 -> None [] None",
     ];
-    all_declare(rt.alloc(), &DECLARED)?;
+    all_declare(rt.alloc(), &ROWS)?;
     static FAULTS: [&str; 7] = [
         // in a final class
         "7 1 3d; 120 2 0031; 132 2 0001 0008 00000004 0001 000c -> Attribute(134)",

@@ -37,48 +37,44 @@ fn check_rows(alloc: Global, rows: &[(&str, &str, &str)]) -> Result<(), Fail> {
     Ok(())
 }
 
-fn found_rows<'a>() -> [(&'a str, &'a str, &'a str); 9] {
-    [
-        ("m/a : a | m/a/p : a", "m", "a m/a [p];"),
-        ("m1/a : a | m2/a : a", "m1 m2", "a m1/a [];"),
-        ("m/a : a", "m/a", "a m/a [];"),
-        ("m/a : a", "n m", "a m/a [];"),
-        ("m/a : a", "", ""),
-        ("m/a : a", "m/a/module-info.class", ""),
-        ("m/a : a | m/a/x.jar", "m", "a m/a [];"),
-        ("m/a : a | m/a/b.c/X.class", "m", "a m/a [];"),
-        ("m/a : a | m/a/p/q/r/X.class", "m", "a m/a [p/q/r];"),
-    ]
-}
+static FOUND_ROWS: [(&str, &str, &str); 9] = [
+    ("m/a : a | m/a/p : a", "m", "a m/a [p];"),
+    ("m1/a : a | m2/a : a", "m1 m2", "a m1/a [];"),
+    ("m/a : a", "m/a", "a m/a [];"),
+    ("m/a : a", "n m", "a m/a [];"),
+    ("m/a : a", "", ""),
+    ("m/a : a", "m/a/module-info.class", ""),
+    ("m/a : a | m/a/x.jar", "m", "a m/a [];"),
+    ("m/a : a | m/a/b.c/X.class", "m", "a m/a [];"),
+    ("m/a : a | m/a/p/q/r/X.class", "m", "a m/a [p/q/r];"),
+];
 
 #[test]
 fn module_paths(rt: HostRuntime) -> Result<(), Fail> {
-    check_rows(rt.alloc(), &found_rows())
+    check_rows(rt.alloc(), &FOUND_ROWS)
 }
 
-fn refused_rows<'a>() -> [(&'a str, &'a str, &'a str); 7] {
-    [
-        ("m/a : a | m/x.jar", "m", "Archive(m/x.jar)"),
-        ("m/a : a", "x.jar m", "Archive(x.jar)"),
-        ("m/x.zip/p/X.class", "m", "Archive(m/x.zip)"),
-        (
-            "m/a : a | bad/b/module-info.class",
-            "m bad",
-            "Info(bad/b/module-info.class, Short(0))",
-        ),
-        ("m/p : a | m/q : a", "m", "TwoInDirectory(m, a)"),
-        ("m/a/X.class | m/a : a", "m", "TopLevelClass(m/a/X.class)"),
-        (
-            "bad/module-info.class",
-            "bad",
-            "Info(bad/module-info.class, Short(0))",
-        ),
-    ]
-}
+static REFUSED_ROWS: [(&str, &str, &str); 7] = [
+    ("m/a : a | m/x.jar", "m", "Archive(m/x.jar)"),
+    ("m/a : a", "x.jar m", "Archive(x.jar)"),
+    ("m/x.zip/p/X.class", "m", "Archive(m/x.zip)"),
+    (
+        "m/a : a | bad/b/module-info.class",
+        "m bad",
+        "Info(bad/b/module-info.class, Short(0))",
+    ),
+    ("m/p : a | m/q : a", "m", "TwoInDirectory(m, a)"),
+    ("m/a/X.class | m/a : a", "m", "TopLevelClass(m/a/X.class)"),
+    (
+        "bad/module-info.class",
+        "bad",
+        "Info(bad/module-info.class, Short(0))",
+    ),
+];
 
 #[test]
 fn refused_module_paths(rt: HostRuntime) -> Result<(), Fail> {
-    check_rows(rt.alloc(), &refused_rows())
+    check_rows(rt.alloc(), &REFUSED_ROWS)
 }
 
 /// What comes of a failure of one call, and how many declaration files were asked for then.

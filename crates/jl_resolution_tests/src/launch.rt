@@ -40,178 +40,172 @@ fn check_rows(alloc: Global, rows: &[(&str, &str, &str)]) -> Result<(), Fail> {
     Ok(())
 }
 
-fn graph_rows<'a>() -> [(&'a str, &'a str, &'a str); 12] {
-    [
-        ("m/a = a", "resolve --module-path m a", SMALLEST),
-        ("m/a = a", "resolve --module-path=m a a", SMALLEST),
-        (
-            "m/a = a; requires b | m/b = b; requires transitive c | m/c = c",
-            "resolve --module-path m a",
-            "0 module a\n  reads b\n  reads c\n  reads java.base\nmodule b\n  reads c\n  reads java.base\nmodule c\n  reads java.base\nmodule java.base\n",
-        ),
-        (
-            "m/a = a; requires b | m/b = b; requires c | m/c = c",
-            "resolve --module-path m a",
-            "0 module a\n  reads b\n  reads java.base\nmodule b\n  reads c\n  reads java.base\nmodule c\n  reads java.base\nmodule java.base\n",
-        ),
-        (
-            "m/a = a; requires static d",
-            "resolve --module-path m a",
-            SMALLEST,
-        ),
-        (
-            "m/a = a; requires static d | m/d = d",
-            "resolve --module-path m a",
-            SMALLEST,
-        ),
-        (
-            "m/a = a; requires static d | m/d = d",
-            "resolve --module-path m a d",
-            "0 module a\n  reads d\n  reads java.base\nmodule d\n  reads java.base\nmodule java.base\n",
-        ),
-        (
-            "m/e = é",
-            "resolve --module-path m é",
-            "0 module java.base\nmodule é\n  reads java.base\n",
-        ),
-        (
-            "m/r = r; requires b; requires c | m/b = b; exports p; packages p | m/c = c; exports p to b; packages p",
-            "resolve --module-path m r",
-            "0 module b\n  reads java.base\nmodule c\n  reads java.base\nmodule java.base\nmodule r\n  reads b\n  reads c\n  reads java.base\n",
-        ),
-        (
-            "m/a = a | m/b = b",
-            "resolve --module-path m --add-modules b a",
-            "0 module a\n  reads java.base\nmodule b\n  reads java.base\nmodule java.base\n",
-        ),
-        (
-            "m1/a = a | m2/a = a; requires b | m2/b = b",
-            "resolve --module-path m1:m2 a",
-            SMALLEST,
-        ),
-        (
-            "m/app = app; requires s; uses s/S | m/s = s; exports s; packages s | m/p1 = p1; requires s; requires t; provides s/S with p1/P; uses t/T; packages p1 | m/t = t; exports t; packages t | m/p2 = p2; requires t; provides t/T with p2/P; packages p2 | m/q = q; requires t; provides t/U with q/Q; packages q",
-            "resolve --module-path m app",
-            "0 module app\n  reads java.base\n  reads s\nmodule java.base\nmodule p1\n  reads java.base\n  reads s\n  reads t\nmodule p2\n  reads java.base\n  reads t\nmodule s\n  reads java.base\nmodule t\n  reads java.base\n",
-        ),
-    ]
-}
+static GRAPH_ROWS: [(&str, &str, &str); 12] = [
+    ("m/a = a", "resolve --module-path m a", SMALLEST),
+    ("m/a = a", "resolve --module-path=m a a", SMALLEST),
+    (
+        "m/a = a; requires b | m/b = b; requires transitive c | m/c = c",
+        "resolve --module-path m a",
+        "0 module a\n  reads b\n  reads c\n  reads java.base\nmodule b\n  reads c\n  reads java.base\nmodule c\n  reads java.base\nmodule java.base\n",
+    ),
+    (
+        "m/a = a; requires b | m/b = b; requires c | m/c = c",
+        "resolve --module-path m a",
+        "0 module a\n  reads b\n  reads java.base\nmodule b\n  reads c\n  reads java.base\nmodule c\n  reads java.base\nmodule java.base\n",
+    ),
+    (
+        "m/a = a; requires static d",
+        "resolve --module-path m a",
+        SMALLEST,
+    ),
+    (
+        "m/a = a; requires static d | m/d = d",
+        "resolve --module-path m a",
+        SMALLEST,
+    ),
+    (
+        "m/a = a; requires static d | m/d = d",
+        "resolve --module-path m a d",
+        "0 module a\n  reads d\n  reads java.base\nmodule d\n  reads java.base\nmodule java.base\n",
+    ),
+    (
+        "m/e = é",
+        "resolve --module-path m é",
+        "0 module java.base\nmodule é\n  reads java.base\n",
+    ),
+    (
+        "m/r = r; requires b; requires c | m/b = b; exports p; packages p | m/c = c; exports p to b; packages p",
+        "resolve --module-path m r",
+        "0 module b\n  reads java.base\nmodule c\n  reads java.base\nmodule java.base\nmodule r\n  reads b\n  reads c\n  reads java.base\n",
+    ),
+    (
+        "m/a = a | m/b = b",
+        "resolve --module-path m --add-modules b a",
+        "0 module a\n  reads java.base\nmodule b\n  reads java.base\nmodule java.base\n",
+    ),
+    (
+        "m1/a = a | m2/a = a; requires b | m2/b = b",
+        "resolve --module-path m1:m2 a",
+        SMALLEST,
+    ),
+    (
+        "m/app = app; requires s; uses s/S | m/s = s; exports s; packages s | m/p1 = p1; requires s; requires t; provides s/S with p1/P; uses t/T; packages p1 | m/t = t; exports t; packages t | m/p2 = p2; requires t; provides t/T with p2/P; packages p2 | m/q = q; requires t; provides t/U with q/Q; packages q",
+        "resolve --module-path m app",
+        "0 module app\n  reads java.base\n  reads s\nmodule java.base\nmodule p1\n  reads java.base\n  reads s\n  reads t\nmodule p2\n  reads java.base\n  reads t\nmodule s\n  reads java.base\nmodule t\n  reads java.base\n",
+    ),
+];
 
 #[test]
 fn graphs(rt: HostRuntime) -> Result<(), Fail> {
-    check_rows(rt.alloc(), &graph_rows())
+    check_rows(rt.alloc(), &GRAPH_ROWS)
 }
 
-fn refused_rows<'a>() -> [(&'a str, &'a str, &'a str); 15] {
-    [
-        (
-            "m/a = a; requires static d",
-            "resolve --module-path m a d",
-            "3 refused: Resolve NotFound d -\n",
-        ),
-        (
-            "m/a = a; requires x | m/b = b; requires x",
-            "resolve --module-path m b a",
-            "3 refused: Resolve NotFound x a\n",
-        ),
-        (
-            "m/a = a",
-            "resolve --module-path x a",
-            "3 refused: Resolve NotFound a -\n",
-        ),
-        (
-            "m/a = a",
-            "resolve --module-path m --add-modules b a",
-            "3 refused: Resolve NotFound b -\n",
-        ),
-        (
-            "m/a = a; requires b | m/b = b; requires c | m/c = c; requires a; requires x",
-            "resolve --module-path m a",
-            "3 refused: Resolve NotFound x c\n",
-        ),
-        (
-            "m/a = a; requires b | m/b = b; requires c | m/c = c; requires a",
-            "resolve --module-path m a",
-            "3 refused: Resolve Cycle a\n",
-        ),
-        (
-            "m/r = r; requires b; requires c | m/b = b; exports p; packages p | m/c = c; exports p; packages p",
-            "resolve --module-path m r",
-            "3 refused: Resolve SamePackage r p b c\n",
-        ),
-        (
-            "m/r = r; requires b; requires c | m/b = b; exports p/q; packages p/q | m/c = c; exports p/q; packages p/q",
-            "resolve --module-path m r",
-            "3 refused: Resolve SamePackage r p.q b c\n",
-        ),
-        (
-            "m/r = r; requires b; packages p | m/r/p/T.class | m/b = b; exports p; packages p",
-            "resolve --module-path m r",
-            "3 refused: Resolve OwnPackage r p b\n",
-        ),
-        (
-            "m/a = a; uses s/S",
-            "resolve --module-path m a",
-            "3 refused: Resolve ServicePackage a s.S\n",
-        ),
-        (
-            "m/a = a; exports p",
-            "resolve --module-path m a",
-            "3 refused: Find Info m/a/module-info.class PackageMissing p\n",
-        ),
-        (
-            "m/a = a | m/b = a",
-            "resolve --module-path m a",
-            "3 refused: Find TwoInDirectory m a\n",
-        ),
-        (
-            "m/a = a; requires x | m/b = a",
-            "resolve --module-path m y",
-            "3 refused: Find TwoInDirectory m a\n",
-        ),
-        (
-            "m/a = a | m/a/X.class",
-            "resolve --module-path m a",
-            "3 refused: Find TopLevelClass m/a/X.class\n",
-        ),
-        (
-            "m/a = a | m/x.jar",
-            "resolve --module-path m a",
-            "3 refused: Find Archive m/x.jar\n",
-        ),
-    ]
-}
+static COMMAND_ROWS: [(&str, &str, &str); 15] = [
+    (
+        "m/a = a; requires static d",
+        "resolve --module-path m a d",
+        "3 refused: Resolve NotFound d -\n",
+    ),
+    (
+        "m/a = a; requires x | m/b = b; requires x",
+        "resolve --module-path m b a",
+        "3 refused: Resolve NotFound x a\n",
+    ),
+    (
+        "m/a = a",
+        "resolve --module-path x a",
+        "3 refused: Resolve NotFound a -\n",
+    ),
+    (
+        "m/a = a",
+        "resolve --module-path m --add-modules b a",
+        "3 refused: Resolve NotFound b -\n",
+    ),
+    (
+        "m/a = a; requires b | m/b = b; requires c | m/c = c; requires a; requires x",
+        "resolve --module-path m a",
+        "3 refused: Resolve NotFound x c\n",
+    ),
+    (
+        "m/a = a; requires b | m/b = b; requires c | m/c = c; requires a",
+        "resolve --module-path m a",
+        "3 refused: Resolve Cycle a\n",
+    ),
+    (
+        "m/r = r; requires b; requires c | m/b = b; exports p; packages p | m/c = c; exports p; packages p",
+        "resolve --module-path m r",
+        "3 refused: Resolve SamePackage r p b c\n",
+    ),
+    (
+        "m/r = r; requires b; requires c | m/b = b; exports p/q; packages p/q | m/c = c; exports p/q; packages p/q",
+        "resolve --module-path m r",
+        "3 refused: Resolve SamePackage r p.q b c\n",
+    ),
+    (
+        "m/r = r; requires b; packages p | m/r/p/T.class | m/b = b; exports p; packages p",
+        "resolve --module-path m r",
+        "3 refused: Resolve OwnPackage r p b\n",
+    ),
+    (
+        "m/a = a; uses s/S",
+        "resolve --module-path m a",
+        "3 refused: Resolve ServicePackage a s.S\n",
+    ),
+    (
+        "m/a = a; exports p",
+        "resolve --module-path m a",
+        "3 refused: Find Info m/a/module-info.class PackageMissing p\n",
+    ),
+    (
+        "m/a = a | m/b = a",
+        "resolve --module-path m a",
+        "3 refused: Find TwoInDirectory m a\n",
+    ),
+    (
+        "m/a = a; requires x | m/b = a",
+        "resolve --module-path m y",
+        "3 refused: Find TwoInDirectory m a\n",
+    ),
+    (
+        "m/a = a | m/a/X.class",
+        "resolve --module-path m a",
+        "3 refused: Find TopLevelClass m/a/X.class\n",
+    ),
+    (
+        "m/a = a | m/x.jar",
+        "resolve --module-path m a",
+        "3 refused: Find Archive m/x.jar\n",
+    ),
+];
 
 #[test]
 fn refused_commands(rt: HostRuntime) -> Result<(), Fail> {
-    check_rows(rt.alloc(), &refused_rows())
+    check_rows(rt.alloc(), &COMMAND_ROWS)
 }
 
-fn word_rows<'a>() -> [(&'a str, &'a str, &'a str); 9] {
-    [
-        ("", "", "2 words: NoCommand\n"),
-        ("", "walk", "2 words: UnknownWord 0\n"),
-        ("", "resolve", "2 words: Missing ROOT\n"),
-        (
-            "",
-            "run --steps 1 --steps 2 a/p.Main",
-            "2 words: Repeated --steps\n",
-        ),
-        (
-            "",
-            "run --steps 99999999999999999999 a/p.Main",
-            "2 words: BadNumber 2\n",
-        ),
-        ("", "run a/Main", "2 words: BadTarget 1\n"),
-        ("", "run --module-path m a/p.Main", "2 words: NotBuilt\n"),
-        ("", "sample 3 100", "2 words: NotBuilt\n"),
-        ("", "sample 3", "2 words: Missing BOUND\n"),
-    ]
-}
+static WORD_ROWS: [(&str, &str, &str); 9] = [
+    ("", "", "2 words: NoCommand\n"),
+    ("", "walk", "2 words: UnknownWord 0\n"),
+    ("", "resolve", "2 words: Missing ROOT\n"),
+    (
+        "",
+        "run --steps 1 --steps 2 a/p.Main",
+        "2 words: Repeated --steps\n",
+    ),
+    (
+        "",
+        "run --steps 99999999999999999999 a/p.Main",
+        "2 words: BadNumber 2\n",
+    ),
+    ("", "run a/Main", "2 words: BadTarget 1\n"),
+    ("", "run --module-path m a/p.Main", "2 words: NotBuilt\n"),
+    ("", "sample 3 100", "2 words: NotBuilt\n"),
+    ("", "sample 3", "2 words: Missing BOUND\n"),
+];
 
 #[test]
 fn refused_words(rt: HostRuntime) -> Result<(), Fail> {
-    check_rows(rt.alloc(), &word_rows())
+    check_rows(rt.alloc(), &WORD_ROWS)
 }
 
 /// What comes of these bytes as the declaration file of `m/a`.
