@@ -22,3 +22,4 @@ pub mod KeptLaws
 mod FilledRows
 pub mod PartLaws
 pub mod Longer
+pub mod Later

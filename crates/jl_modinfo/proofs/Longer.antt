@@ -1,11 +1,11 @@
 -- Reading a declaration file where more bytes follow.
 use Rattle.std.proofs.Common.{◌≡◌, ℕ, ◌+◌, ◌<◌, ◌≤◌, Bool, true, false, cond, ltb, eqb, not, List, [], ◌∷◌, ◌++◌, length, take, drop, Option, None, Some, Result, Ok, Err, refl, sym, ap, subst, ◌∙◌, arith, inl, inr}
-use Rattle.std.specs.Prelude.{◌⊎◌, MatchOption, ⊤, codes, map}
+use Rattle.std.specs.Prelude.{◌⊎◌, codes, map}
 use Rattle.std.proofs.lemmas.Bool.{lt-ltb, le-ltb}
 use Rattle.byteorder.specs.Endian.{big_number}
 use Rattle.std.proofs.lemmas.List.{length-take-le, length-append}
-use Rattle.jl_reading.specs.Reading.{◌>>=◌, number_at, each_at, steps_at}
-use Rattle.jl_reading.specs.Appended.{Appends, IsPast, Stays}
+use Rattle.jl_reading.specs.Reading.{◌>>=◌, number_at, each_at}
+use Rattle.jl_reading.specs.Appended.{Appends, IsPast}
 use Rattle.jl_reading.proofs.Appended.{number_appends, bind_appends, bind_within, given_appends, fault_appends, cond_appends, each_appends, steps_appends, part_appends, appends_as, mapped_appends, widened_appends, ReadsPart, bind_err, bind_as, bind_fails, past_fault, not_both, err_is, failed}
 use Rattle.jl_reading.proofs.Steps.{bind_ok, guard_ok, ok_is}
 use Rattle.jl_prim.specs.declared.declaration.Requires.{Requires}

@@ -1,5 +1,6 @@
 pub mod Faults
 pub mod Meaning
+pub mod Places
 pub mod Rules
 pub mod Reading
 pub mod Kinds

@@ -3,7 +3,6 @@ use Rattle.std.specs.Prelude.{◌≡◌, ℕ, ◌+◌, ◌<◌, ◌≤◌, List,
 use Rattle.byteorder.specs.Endian.{big_number}
 use Rattle.jl_reading.specs.Reading.{IsBytes}
 use Rattle.jl_reading.specs.Appended.{Stays}
-use Rattle.jl_prim.specs.declared.declaration.Declaration.{Declaration}
 use Rattle.jl_modinfo.specs.declared.fault.InfoFault.{InfoFault}
 use Rattle.jl_modinfo.specs.declared.fault.InfoFault.TheVariants as faults
 use Rattle.jl_modinfo.specs.Reading.{info_of}

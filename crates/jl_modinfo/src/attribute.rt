@@ -1,8 +1,9 @@
 //! The attributes of a declaration file (JVMS 4.7).
 
-ghost use Rattle.std.specs.Prelude.{◌≡◌, ◌≤◌, length, IfOk};
+ghost use Rattle.std.specs.Prelude.{◌≡◌};
 ghost use Rattle.std.specs.List.{list_any};
 ghost use Rattle.jl_logic.specs.Answers.{Gives};
+ghost use Rattle.jl_classfile.specs.Places.{Reads};
 ghost use Rattle.jl_modinfo.specs.Faults.{told};
 ghost use Rattle.jl_modinfo.specs.Reading.{form_name, is_form, part_form, attributes_at, attributes_in};
 ghost use Rattle.jl_modinfo.specs.Reading as reading;
@@ -14,7 +15,6 @@ use crate::names::{name_at, names_at};
 use jl_classfile::{AttributeReader, Place};
 use jl_pool::Pool;
 use jl_prim::{Copied, Items, Name};
-use jl_reading::u16_at;
 use std::alloc::Global;
 
 /// The attributes of a declaration file that are read.
@@ -131,19 +131,9 @@ impl<'a> AttributeReader<Form, Part, InfoFault> for InfoReader<'a> {
         content: Place<'_>,
     ) -> Result<Part, InfoFault> {
         match form {
-            Form::Module => Ok(Part::Module(module_of(
-                alloc,
-                self.pool,
-                content.bytes,
-                content.at,
-            )?)),
-            Form::Packages => Ok(Part::Packages(packages_of(
-                alloc,
-                self.pool,
-                content.bytes,
-                content.at,
-            )?)),
-            Form::MainClass => Ok(Part::MainClass(main_of(self.pool, content.bytes, content.at)?)),
+            Form::Module => Ok(Part::Module(module_of(alloc, self.pool, content)?)),
+            Form::Packages => Ok(Part::Packages(packages_of(alloc, self.pool, content)?)),
+            Form::MainClass => Ok(Part::MainClass(main_of(self.pool, content)?)),
         }
     }
 }
@@ -157,20 +147,17 @@ fn has_form(done: &[Part], form: Form) -> bool
 
 /// What the attributes declare whose count stands at a place, and the place after them.
 #[tactic(auto, unfolding(crate::specs::Reading::attributes_at))]
-pub fn attributes_of(
+pub fn attributes_of<'p>(
     alloc: Global,
     pool: &Pool,
-    bytes: &[u8],
-    at: usize,
-) -> Result<(Attributes, usize), InfoFault>
-    requires { at ≤ length bytes.now }
-    ensures { Gives told (λ x. x) result (attributes_at pool.now bytes.now at) }
+    place: Place<'p>,
+) -> Result<(Attributes, Place<'p>), InfoFault>
+    ensures { Reads told (λ read. read) place.entry result (attributes_at pool.now) }
 {
-    let (count, at) = u16_at::<InfoFault>(bytes, at)?;
+    let (count, place) = place.u16::<InfoFault>()?;
     let reader = InfoReader { pool };
-    let place = Place { bytes, at };
     let (read, next) = jl_classfile::attributes_at(alloc, &reader, pool, count, place)?;
-    Ok((together(read), next.at))
+    Ok((together(read), next))
 }
 
 /// What attributes declare together. Of a form that stood twice the first would count.
@@ -204,17 +191,11 @@ fn before(part: Part, behind: Attributes) -> Attributes
 
 /// The packages that the bytes from a place on list, all of them.
 #[tactic(auto, unfolding(crate::specs::Reading::packages_at))]
-fn packages_of(
-    alloc: Global,
-    pool: &Pool,
-    bytes: &[u8],
-    at: usize,
-) -> Result<Items<Name>, InfoFault>
-    requires { at ≤ length bytes.now }
-    ensures { Gives told (λ x. x) result (reading.packages_at pool.now bytes.now at) }
+fn packages_of(alloc: Global, pool: &Pool, content: Place<'_>) -> Result<Items<Name>, InfoFault>
+    ensures { Gives told (λ x. x) result (reading.packages_at pool.now content.entry.bytes.now content.entry.at) }
 {
-    let (packages, next) = names_at(alloc, pool, "packages", Kind::Package, bytes, at)?;
-    if next != bytes.len() {
+    let (packages, next) = names_at(alloc, pool, "packages", Kind::Package, content)?;
+    if !next.is_end() {
         return Err(InfoFault::Trailing);
     }
     Ok(packages)
@@ -222,12 +203,11 @@ fn packages_of(
 
 /// The class that the bytes from a place on name, all of them.
 #[tactic(auto, unfolding(crate::specs::Reading::main_at))]
-fn main_of(pool: &Pool, bytes: &[u8], at: usize) -> Result<Name, InfoFault>
-    requires { at ≤ length bytes.now }
-    ensures { Gives told (λ x. x) result (reading.main_at pool.now bytes.now at) }
+fn main_of(pool: &Pool, content: Place<'_>) -> Result<Name, InfoFault>
+    ensures { Gives told (λ x. x) result (reading.main_at pool.now content.entry.bytes.now content.entry.at) }
 {
-    let (name, next) = name_at(pool, Kind::Class, bytes, at)?;
-    if next != bytes.len() {
+    let (name, next) = name_at(pool, Kind::Class, content)?;
+    if !next.is_end() {
         return Err(InfoFault::Trailing);
     }
     Ok(name.copy()?)

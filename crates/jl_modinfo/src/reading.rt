@@ -1,7 +1,8 @@
 //! Reading a declaration file.
 
-ghost use Rattle.std.specs.Prelude.{◌≡◌, ◌≤◌, ◌↔◌, List, ℕ, length, IfOk, Ok, Err};
+ghost use Rattle.std.specs.Prelude.{◌≡◌, ◌↔◌, List, ℕ, IfOk, Ok, Err};
 ghost use Rattle.jl_logic.specs.Answers.{Gives};
+ghost use Rattle.jl_classfile.specs.Places.{Reads};
 ghost use Rattle.jl_pool.specs.Reading.{pool_at};
 ghost use Rattle.jl_prim.specs.declared.declaration.Declaration.{Declaration};
 ghost use Rattle.jl_modinfo.specs.Info.{IsInfo};
@@ -15,6 +16,7 @@ use crate::front::{empty_class, front};
 use crate::module::Module;
 use crate::names::copied_all;
 use crate::rules::ruled;
+use jl_classfile::Place;
 use jl_pool::{Pool, read_pool};
 use jl_prim::{Declaration, Items, Name};
 use std::alloc::Global;
@@ -37,30 +39,32 @@ pub fn read_info(alloc: Global, bytes: &[u8], found: &[Name]) -> Result<Declarat
 fn info(alloc: Global, bytes: &[u8], found: &[Name]) -> Result<Declaration, InfoFault>
     ensures { Gives told (λ d. d) result (info_of bytes.now found.now) }
 {
-    let at = front(bytes)?;
-    let (pool, at) = pool(alloc, bytes, at)?;
-    let at = empty_class(alloc, &pool, bytes, at)?;
-    let (read, at) = attributes_of(alloc, &pool, bytes, at)?;
-    whole(alloc, found, bytes, read, at)
+    let place = front(bytes)?;
+    let (pool, place) = pool(alloc, place)?;
+    let place = empty_class(alloc, &pool, place)?;
+    let (read, next) = attributes_of(alloc, &pool, place)?;
+    whole(alloc, found, read, next)
 }
 
-fn pool(alloc: Global, bytes: &[u8], at: usize) -> Result<(Pool, usize), InfoFault>
-    requires { at ≤ length bytes.now }
-    ensures exact { Gives told (λ x. x) result (pool_or (pool_at bytes.now at)) }
-    ensures within { IfOk result (λ x. x.1 ≤ length bytes.now) }
+fn pool<'p>(alloc: Global, place: Place<'p>) -> Result<(Pool, Place<'p>), InfoFault>
+    ensures { Reads told (λ pool. pool) place.entry result (λ bytes at. pool_or (pool_at bytes at)) }
 {
-    Ok(read_pool(alloc, bytes, at)?)
+    let (pool, at) = read_pool(alloc, place.bytes, place.at)?;
+    let next = Place {
+        bytes: place.bytes,
+        at,
+    };
+    Ok((pool, next))
 }
 
-/// The declaration that the attributes make, where the whole file keeps its rules.
+/// The declaration that the attributes make, where the whole file keeps its rules and ends at the place.
 fn whole(
     alloc: Global,
     found: &[Name],
-    bytes: &[u8],
     read: Attributes,
-    at: usize,
+    place: Place<'_>,
 ) -> Result<Declaration, InfoFault>
-    ensures { Gives told (λ d. d) result (whole_file found.now bytes.now read at) }
+    ensures { Gives told (λ d. d) result (whole_file found.now place.entry.bytes.now read place.entry.at) }
 {
     let Attributes {
         module,
@@ -70,7 +74,7 @@ fn whole(
     let Some(module) = module else {
         return Err(InfoFault::NoModuleAttribute);
     };
-    if at != bytes.len() {
+    if !place.is_end() {
         return Err(InfoFault::Trailing);
     }
     let packages = packages_or(alloc, packages, found)?;

@@ -1,4 +1,4 @@
-use Rattle.std.proofs.Common.{◌≡◌, ◌-◌, ◌≤◌, [], length}
+use Rattle.std.proofs.Common.{◌≡◌, ◌-◌, []}
 use Rattle.jl_reading.specs.Reading.{each_at}
 use Rattle.jl_modinfo.specs.Reading.{grant_at}
 use Rattle.jl_modinfo.specs.Kinds.{naming}
@@ -6,6 +6,6 @@ use Rattle.jl_modinfo.proofs.grants.each_grant.Given as goal
 
 abbrev pub invariant-loop : goal.invariant-loop
 invariant-loop l = record {
-  within : l.next ≤ length l.bytes;
-  reads : each_at (grant_at l.table (naming l.kind) l.pool l.bytes) l.done (l.count - l.counter) l.next ≡ each_at (grant_at l.table (naming l.kind) l.pool l.bytes) [] l.count l.at;
+  bytes : l.next.bytes.now ≡ l.place.bytes.now;
+  reads : each_at (grant_at l.table (naming l.kind) l.pool l.place.bytes.now) l.done (l.count - l.counter) l.next.at ≡ each_at (grant_at l.table (naming l.kind) l.pool l.place.bytes.now) [] l.count l.place.at;
 }
