@@ -16,7 +16,7 @@ use Rattle.jl_classfile.proofs.AttributeLaws.{Laws, AreRead, forms_of}
 use Rattle.jl_classfile.proofs.AttributeLaws as walk
 use Rattle.jl_classfile.proofs.Slots.{Slot, Slots, slot_found, slots_read, names_form, has_kind, meant_once, at_most_once}
 use Rattle.jl_modinfo.specs.declared.module.Module.{Module}
-use Rattle.jl_modinfo.specs.declared.attribute.Attributes.{Attributes}
+use Rattle.jl_modinfo.specs.declared.attribute.FileParts.{FileParts}
 use Rattle.jl_modinfo.specs.declared.attribute.Form.{Form}
 use Rattle.jl_modinfo.specs.declared.attribute.Form.TheVariants as forms
 use Rattle.jl_modinfo.specs.declared.attribute.Part.{Part}
@@ -220,7 +220,7 @@ main_names pool attributes = by_names pool attributes (names_form form_of (is_fo
 -- ---- all attributes
 
 -- the attributes declare this together
-pub record Declared (pool : List Entry) (attributes : List Attribute) (all : Attributes) : Type 0 where
+pub record Declared (pool : List Entry) (attributes : List Attribute) (all : FileParts) : Type 0 where
   pub modules : AtMostOne (IsModuleContent pool) (contents pool (codes "Module") attributes) all.«module»
   pub packages : AtMostOne (IsPackagesContent pool) (contents pool (codes "ModulePackages") attributes) all.packages
   pub main : AtMostOne (IsMainContent pool) (contents pool (codes "ModuleMainClass") attributes) all.main
@@ -235,13 +235,13 @@ declared_by pool attributes vs read = record {
       (slot_found (Means pool) is_first (is_form forms.MainClass) main_in (IsMainContent pool) (main_slot pool) form_of pool attributes vs read);
 }
 
-pub record AllStand (pool : List Entry) (bytes : List ℕ) (at : ℕ) (x : Attributes × ℕ) : Type 0 where
+pub record AllStand (pool : List Entry) (bytes : List ℕ) (at : ℕ) (x : FileParts × ℕ) : Type 0 where
   pub attributes : List Attribute
   pub are : AreAttributes pool attributes
   pub stands : Stands bytes at (counted attribute_bytes attributes) x.1
   pub declared : Declared pool attributes x.0
 
-pub attributes_stand : (pool : List Entry) (bytes : List ℕ) (at : ℕ) (x : Attributes × ℕ) → IsBytes bytes → attributes_at pool bytes at ≡ Ok x → AllStand pool bytes at x
+pub attributes_stand : (pool : List Entry) (bytes : List ℕ) (at : ℕ) (x : FileParts × ℕ) → IsBytes bytes → attributes_at pool bytes at ≡ Ok x → AllStand pool bytes at x
 unfolding attributes_at
 attributes_stand pool bytes at x b e =
     let s1 = bind_ok (number_at short 2 bytes at) (λ count. framing.attributes_at (reader_of pool) pool count.0 bytes count.1 >>= λ read. Ok (attributes_in read.0, read.1)) x e in
@@ -286,7 +286,7 @@ none_before k (v ∷ done) = either (is_form k (part_form v)) (none_before k don
     either true e = refl
     either false e = e
 
-abbrev slot_in : Attributes → Form → Option Part
+abbrev slot_in : FileParts → Form → Option Part
 slot_in all forms.Module = by all.«module» where
   by : Option Module → Option Part
   by None = None
@@ -300,7 +300,7 @@ slot_in all forms.MainClass = by all.main where
   by None = None
   by (Some class) = Some (parts.MainClass class)
 
-slots : (pool : List Entry) (all : Attributes) → Slots (Means pool) is_first is_form part_form (slot_in all)
+slots : (pool : List Entry) (all : FileParts) → Slots (Means pool) is_first is_form part_form (slot_in all)
 slots pool all = record {
   same_is = same_is;
   same_self = same_self;
@@ -308,7 +308,7 @@ slots pool all = record {
   allowed = λ done k v is each none. ap not (sym (none_before k done) ∙ none);
 }
 
-slot_of : (pool : List Entry) (attributes : List Attribute) (all : Attributes) → Declared pool attributes all → (k : Form) → AtMostOne (Means pool k) (spelling.contents pool (names_form form_of (is_form k)) attributes) (slot_in all k)
+slot_of : (pool : List Entry) (attributes : List Attribute) (all : FileParts) → Declared pool attributes all → (k : Form) → AtMostOne (Means pool k) (spelling.contents pool (names_form form_of (is_form k)) attributes) (slot_in all k)
 slot_of pool attributes all d forms.Module = subst (λ cs. AtMostOne (Means pool forms.Module) cs (slot_in all forms.Module)) (sym (module_names pool attributes)) (by all.«module» d.modules)
   where
     by : (o : Option Module) → AtMostOne (IsModuleContent pool) (contents pool (codes "Module") attributes) o → AtMostOne (Means pool forms.Module) (contents pool (codes "Module") attributes) (slot_in (record all { «module» = o }) forms.Module)
@@ -344,18 +344,18 @@ main_once pool c v w a b = is (meant_once (reader_of pool) (Means pool) (laws po
     is e = cc
 
 -- attributes declare one thing together
-declared_once : (pool : List Entry) (attributes : List Attribute) (all other : Attributes) → Declared pool attributes all → Declared pool attributes other → all ≡ other
+declared_once : (pool : List Entry) (attributes : List Attribute) (all other : FileParts) → Declared pool attributes all → Declared pool attributes other → all ≡ other
 declared_once pool attributes all other a b =
     let modules = at_most_once (IsModuleContent pool) (module_once pool) (contents pool (codes "Module") attributes) all.«module» other.«module» a.modules b.modules in
     let packages = at_most_once (IsPackagesContent pool) (packages_once pool) (contents pool (codes "ModulePackages") attributes) all.packages other.packages a.packages b.packages in
     let main = at_most_once (IsMainContent pool) (main_once pool) (contents pool (codes "ModuleMainClass") attributes) all.main other.main a.main b.main in
     λ i. record { «module» = modules i; packages = packages i; main = main i }
 
-pub attributes_again : (pool : List Entry) (bytes : List ℕ) (at next : ℕ) (attributes : List Attribute) (all : Attributes) → Declared pool attributes all → AreAttributes pool attributes
+pub attributes_again : (pool : List Entry) (bytes : List ℕ) (at next : ℕ) (attributes : List Attribute) (all : FileParts) → Declared pool attributes all → AreAttributes pool attributes
     → Stands bytes at (counted attribute_bytes attributes) next → attributes_at pool bytes at ≡ Ok (all, next)
 unfolding attributes_at
 attributes_again pool bytes at next attributes all d are s =
     let vs = slots_read (Means pool) is_first is_form part_form (slot_in all) (slots pool all) form_of pool attributes (slot_of pool attributes all d) in
     let r = walk.attributes_again short (reader_of pool) (Means pool) (laws pool) pool bytes at next attributes vs.0 are vs.1 s in
     let same = declared_once pool attributes (attributes_in vs.0) all (declared_by pool attributes vs.0 vs.1) d in
-    bind_to _ r.0 (bind_to _ r.1 (ap (λ (a : Attributes). Ok (a, next)) same))
+    bind_to _ r.0 (bind_to _ r.1 (ap (λ (a : FileParts). Ok (a, next)) same))

@@ -11,7 +11,7 @@ use Rattle.jl_pool.specs.Reading.{pool_at}
 use Rattle.jl_pool.specs.Spelling.{StandsPool}
 use Rattle.jl_pool.proofs.Whole.{pool_stands, pool_again}
 use Rattle.jl_modinfo.specs.declared.module.Module.{Module}
-use Rattle.jl_modinfo.specs.declared.attribute.Attributes.{Attributes}
+use Rattle.jl_modinfo.specs.declared.attribute.FileParts.{FileParts}
 use Rattle.jl_modinfo.specs.declared.fault.InfoFault.TheVariants as faults
 use Rattle.jl_modinfo.specs.Faults.{pool_or}
 use Rattle.jl_modinfo.specs.Rules.{keeps_base_rule, missing_package}
@@ -28,7 +28,7 @@ all_there_ok : (d : Declaration) (o : Option (List ℕ)) (e : Declaration) → a
 all_there_ok d None e is = (refl, ok_is _ _ is)
 all_there_ok d (Some name) e is = absurd cc
 
-record Whole (found : List (List ℕ)) (bytes : List ℕ) (read : Attributes) (at : ℕ) (d : Declaration) : Type 0 where
+record Whole (found : List (List ℕ)) (bytes : List ℕ) (read : FileParts) (at : ℕ) (d : Declaration) : Type 0 where
   m : Module
   there : read.«module» ≡ Some m
   end : at ≡ length bytes

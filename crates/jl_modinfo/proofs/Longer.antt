@@ -23,7 +23,7 @@ use Rattle.jl_classfile.specs.Attributes as framing
 use Rattle.jl_classfile.specs.Front as front_words
 use Rattle.jl_classfile.specs.Places.{content_at}
 use Rattle.jl_modinfo.specs.declared.module.Module.{Module}
-use Rattle.jl_modinfo.specs.declared.attribute.Attributes.{Attributes}
+use Rattle.jl_modinfo.specs.declared.attribute.FileParts.{FileParts}
 use Rattle.jl_modinfo.specs.declared.attribute.Form.{Form}
 use Rattle.jl_modinfo.specs.declared.attribute.Form.TheVariants as forms
 use Rattle.jl_modinfo.specs.declared.attribute.Part.{Part}
@@ -552,5 +552,5 @@ reads_longer found =
     lasts_then (λ (x : ℕ). x) 0 (λ bytes. front_at bytes) _ front
     (λ start. lasts_then (λ (x : List Entry × ℕ). x.1) start (λ bytes. pool_or (pool_at bytes start)) _ (pool start)
     (λ p. lasts_then (λ (x : ℕ). x) p.1 (λ bytes. empty_class_at p.0 bytes p.1) _ (empty_class p.0 p.1)
-    (λ at. lasts_then (λ (x : Attributes × ℕ). x.1) at (λ bytes. attributes_at p.0 bytes at) (λ read bytes. whole found bytes read.0 read.1) (attributes p.0 at)
+    (λ at. lasts_then (λ (x : FileParts × ℕ). x.1) at (λ bytes. attributes_at p.0 bytes at) (λ read bytes. whole found bytes read.0 read.1) (attributes p.0 at)
     (λ read. whole_lasts found read.1 read.0.«module» read.0.packages read.0.main))))

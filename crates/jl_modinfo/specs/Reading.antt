@@ -14,7 +14,7 @@ use Rattle.jl_modinfo.specs.declared.module.Module.{Module}
 use Rattle.jl_classfile.specs.Attributes.{Reader, first_that}
 use Rattle.jl_classfile.specs.Attributes as framing_attributes
 use Rattle.jl_classfile.specs.Front as framing
-use Rattle.jl_modinfo.specs.declared.attribute.Attributes.{Attributes}
+use Rattle.jl_modinfo.specs.declared.attribute.FileParts.{FileParts}
 use Rattle.jl_modinfo.specs.declared.attribute.Form.{Form}
 use Rattle.jl_modinfo.specs.declared.attribute.Form.TheVariants as forms
 use Rattle.jl_modinfo.specs.declared.attribute.Part.{Part}
@@ -234,17 +234,17 @@ main_in (parts.MainClass class) = Some class
 main_in _ = None
 
 -- what the attributes declare together
-abbrev pub attributes_in : List Part → Attributes
+abbrev pub attributes_in : List Part → FileParts
 attributes_in read = record { «module» = first_that module_in read; packages = first_that packages_in read; main = first_that main_in read }
 
 -- an attribute before others
-abbrev pub before : Part → Attributes → Attributes
+abbrev pub before : Part → FileParts → FileParts
 before (parts.Module m) behind = record behind { «module» = Some m }
 before (parts.Packages packages) behind = record behind { packages = Some packages }
 before (parts.MainClass class) behind = record behind { main = Some class }
 
 -- the attributes whose count stands at a place
-unfoldable pub attributes_at : List Entry → List ℕ → ℕ → Result (Attributes × ℕ) InfoFault
+unfoldable pub attributes_at : List Entry → List ℕ → ℕ → Result (FileParts × ℕ) InfoFault
 attributes_at pool bytes at = do
   count ← number_at short 2 bytes at
   read ← framing_attributes.attributes_at (reader_of pool) pool count.0 bytes count.1
@@ -280,7 +280,7 @@ abbrev pub ruled : Declaration → Result Declaration InfoFault
 ruled d = if keeps_base_rule d.name d.required then all_there d (missing_package d) else Err faults.BaseRule
 
 -- the rules on the whole file, in order
-abbrev pub whole : List (List ℕ) → List ℕ → Attributes → ℕ → Result Declaration InfoFault
+abbrev pub whole : List (List ℕ) → List ℕ → FileParts → ℕ → Result Declaration InfoFault
 whole found bytes read at = by read.«module» where
   by : Option Module → Result Declaration InfoFault
   by None = Err faults.NoModuleAttribute

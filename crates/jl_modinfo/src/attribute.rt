@@ -38,7 +38,7 @@ pub enum Part {
 
 /// What the attributes declare together.
 #[derive(Debug, Drop)]
-pub struct Attributes {
+pub struct FileParts {
     pub module: Option<Module>,
     pub packages: Option<Items<Name>>,
     pub main: Option<Name>,
@@ -151,7 +151,7 @@ pub fn attributes_of<'p>(
     alloc: Global,
     pool: &Pool,
     place: Place<'p>,
-) -> Result<(Attributes, Place<'p>), InfoFault>
+) -> Result<(FileParts, Place<'p>), InfoFault>
     ensures { Reads told (λ read. read) place.entry result (attributes_at pool.now) }
 {
     let (count, place) = place.u16::<InfoFault>()?;
@@ -161,11 +161,11 @@ pub fn attributes_of<'p>(
 }
 
 /// What attributes declare together. Of a form that stood twice the first would count.
-fn together(read: Vec<Part>) -> Attributes
+fn together(read: Vec<Part>) -> FileParts
     ensures { result ≡ attributes_in read.items }
 {
     let mut rest = read;
-    let mut behind = Attributes {
+    let mut behind = FileParts {
         module: None,
         packages: None,
         main: None,
@@ -177,7 +177,7 @@ fn together(read: Vec<Part>) -> Attributes
 }
 
 /// What an attribute declares before others.
-fn before(part: Part, behind: Attributes) -> Attributes
+fn before(part: Part, behind: FileParts) -> FileParts
     ensures { result ≡ reading.before part behind }
 {
     let mut all = behind;

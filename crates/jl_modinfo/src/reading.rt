@@ -10,7 +10,7 @@ ghost use Rattle.jl_modinfo.specs.declared.fault.InfoFault.{InfoFault};
 ghost use Rattle.jl_modinfo.specs.Faults.{told, pool_or};
 ghost use Rattle.jl_modinfo.specs.Reading.{info_of, declaration_of, or_found, whole as whole_file};
 
-use crate::attribute::{Attributes, attributes_of};
+use crate::attribute::{FileParts, attributes_of};
 use crate::fault::InfoFault;
 use crate::front::{empty_class, front};
 use crate::module::Module;
@@ -61,12 +61,12 @@ fn pool<'p>(alloc: Global, place: Place<'p>) -> Result<(Pool, Place<'p>), InfoFa
 fn whole(
     alloc: Global,
     found: &[Name],
-    read: Attributes,
+    read: FileParts,
     place: Place<'_>,
 ) -> Result<Declaration, InfoFault>
     ensures { Gives told (λ d. d) result (whole_file found.now place.entry.bytes.now read place.entry.at) }
 {
-    let Attributes {
+    let FileParts {
         module,
         packages,
         main,
