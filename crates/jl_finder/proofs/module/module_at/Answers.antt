@@ -16,11 +16,6 @@ pub returns-in-None-clause-gives : goal.returns-in-None-clause-gives
 returns-in-None-clause-gives g c = λ files e h q.
     module_so c.read_module.result _ _ (none_beside files c.args.place c.args.entries.now c.args.packages.now h (sym c.in-None.ensures) q) (c.read_module.ensures.gives files e)
 
-pub returns-in_err-path-in-Some-clause-reads : goal.returns-in_err-path-in-Some-clause-reads
-returns-in_err-path-in-Some-clause-reads g c = λ files e h.
-    let p = err_from_is_err_and c.from_residual.result c.from_residual.ensures.1 in
-    rw (p.1, p.2) (asks_nothing (g.T.Tree.asked c.args.tree.now) (g.T.Tree.asked c.args.tree.now) (reads_beside c.args.place (top_classes files c.args.place)) refl)
-
 pub returns-in_ok-path-in-Some-clause-reads : goal.returns-in_ok-path-in-Some-clause-reads
 returns-in_ok-path-in-Some-clause-reads g c = λ files e h.
     asked_nothing (g.T.Tree.asked c.args.tree.now) (g.T.Tree.asked c.args.tree.now) (reads_beside c.args.place (top_classes files c.args.place)) (one_reads files c.args.place c.args.entries.now c.in-Some.class.now h (sym c.in-Some.ensures)) refl
