@@ -6,15 +6,15 @@ use Rattle.jl_logic.specs.Order.{IsLeast}
 use Rattle.jl_config.specs.declared.configuration.Read.{Read}
 use Rattle.jl_config.specs.declared.fault.ResolveFault.{ResolveFault}
 use Rattle.jl_config.specs.declared.fault.ResolveFault.TheVariants.{NoParents, NotFound, TooMany, Cycle, SameName, SamePackage, OwnPackage, ServicePackage, NoMemory}
-use Rattle.jl_config.specs.declared.site.Site.{Site}
+use Rattle.jl_config.specs.declared.candidate.Candidate.{Candidate}
 use Rattle.jl_config.specs.Configurations.{Configuration}
 use Rattle.jl_config.specs.Laws.{ResolvesAlways, RefusesWhereOneHolds}
-use Rattle.jl_config.specs.Located.{Asked, Scene, scene_of, id_of, name_of, site_name}
+use Rattle.jl_config.specs.Located.{Asked, Scene, scene_of, id_of, name_of, candidate_name}
 use Rattle.jl_config.specs.Members.{IsMember, Reads}
 use Rattle.jl_config.specs.Orders.{module_cmp, read_cmp}
 use Rattle.jl_prim.specs.Limits.{most_modules}
 use Rattle.jl_config.specs.Refusals.{IsMissing, IsLarge, IsOnCycle, IsSameName, IsSamePackage, IsOwnPackage, IsServicePackage, Applies, fault_cmp}
-use Rattle.jl_config.specs.Resolves.{Resolves, AreModules, AreReads, IsConfigurationOf, read_of, new_site}
+use Rattle.jl_config.specs.Resolves.{Resolves, AreModules, AreReads, IsConfigurationOf, read_of, new_candidate}
 use Rattle.jl_config.proofs.FaultOrder.{fault_total, modules_total, reads_total, reads_exact}
 use Rattle.jl_config.proofs.Names.{names_exact}
 use Rattle.jl_config.proofs.FaultListings.{missing_listed, decided_large, same_name_listed, same_package_listed, own_package_listed, service_listed}
@@ -123,15 +123,15 @@ faults_listed q lists =
 -- ---- the modules
 
 abbrev OfMember : Scene → Observed → Type 0
-OfMember w o = (s : Site) × IsMember w s × (s.observed ≡ o)
+OfMember w o = (s : Candidate) × IsMember w s × (s.observed ≡ o)
 
 modules_tied : (w : Scene) (o p : Observed) → OfMember w o → OfMember w p → module_cmp o p ≡ Equal → o ≡ p
 modules_tied w o p k m e =
     let names : name_of o ≡ name_of p = names_exact (name_of o) (name_of p) e in
     let same : k.0 ≡ m.0 = one_of_name w k.0 m.0 k.1 m.1 (ap name_of k.2 ∙ names ∙ sym (ap name_of m.2)) in
-    sym k.2 ∙ ap (λ (s : Site). s.observed) same ∙ m.2
+    sym k.2 ∙ ap (λ (s : Candidate). s.observed) same ∙ m.2
 
-pub module_here : (q : Asked) (s : Site) (o : Observed) → IsMember (scene_of q) s → s.observed ≡ o → s ≡ new_site q o
+pub module_here : (q : Asked) (s : Candidate) (o : Observed) → IsMember (scene_of q) s → s.observed ≡ o → s ≡ new_candidate q o
 module_here q s o m e =
     let number : s.config.0 ≡ length q.known + 1 = eqb-true s.config.0 (length q.known + 1) (member_found (scene_of q) s m).by_finder in
     λ i. record { config = record { 0 = number i }; observed = e i }
@@ -139,7 +139,7 @@ module_here q s o m e =
 modules_made : (q : Asked) → Lists (scene_of q) → (os : List Observed) × AreModules q os
 modules_made q lists =
     let os : Rising module_cmp modules_total (OfMember (scene_of q)) =
-    sorted module_cmp modules_total (OfMember (scene_of q)) (listing_map (IsMember (scene_of q)) (λ (s : Site). s.observed) lists.members) (modules_tied (scene_of q)) in (
+    sorted module_cmp modules_total (OfMember (scene_of q)) (listing_map (IsMember (scene_of q)) (λ (s : Candidate). s.observed) lists.members) (modules_tied (scene_of q)) in (
       os.items,
       record {
         rise = os.rise;
@@ -150,32 +150,32 @@ modules_made q lists =
 
 -- ---- what they read
 
-abbrev ReadByOne : Scene → Site → Read → Type 0
-ReadByOne w a r = (b : Site) × Reads w a b × (read_of a b ≡ r)
+abbrev ReadByOne : Scene → Candidate → Read → Type 0
+ReadByOne w a r = (b : Candidate) × Reads w a b × (read_of a b ≡ r)
 
 abbrev ReadByMember : Scene → Read → Type 0
-ReadByMember w r = (a : Site) × IsMember w a × ReadByOne w a r
+ReadByMember w r = (a : Candidate) × IsMember w a × ReadByOne w a r
 
-configs_same : (w : Scene) → ((m : List ℕ × List ℕ) → IsSameName w m → ⊥) → (a b c : Site) → IsMember w a → Reads w a b → Reads w a c → site_name b ≡ site_name c → Decided (b.config ≡ c.config) → b.config ≡ c.config
+configs_same : (w : Scene) → ((m : List ℕ × List ℕ) → IsSameName w m → ⊥) → (a b c : Candidate) → IsMember w a → Reads w a b → Reads w a c → candidate_name b ≡ candidate_name c → Decided (b.config ≡ c.config) → b.config ≡ c.config
 configs_same w none a b c m rb rc e (inl k) = k
-configs_same w none a b c m rb rc e (inr n) = absurd (none (site_name a, site_name b) (a, b, c, m, refl, rb, rc, refl, sym e, n))
+configs_same w none a b c m rb rc e (inr n) = absurd (none (candidate_name a, candidate_name b) (a, b, c, m, refl, rb, rc, refl, sym e, n))
 
 reads_tied : (w : Scene) → ((m : List ℕ × List ℕ) → IsSameName w m → ⊥) → (r s : Read) → ReadByMember w r → ReadByMember w s → read_cmp r s ≡ Equal → r ≡ s
 reads_tied w none r s (a, am, (b, rb, rs)) (c, cm, (d, rd, ss)) e = reads_exact r s e together
   where
-    named : (x y : Site) (t : Read) → read_of x y ≡ t → site_name x ≡ t.reader
+    named : (x y : Candidate) (t : Read) → read_of x y ≡ t → candidate_name x ≡ t.reader
     named x y t f = ap (λ (u : Read). u.reader) f
 
-    names : (x y : Site) (t : Read) → read_of x y ≡ t → site_name y ≡ t.name
+    names : (x y : Candidate) (t : Read) → read_of x y ≡ t → candidate_name y ≡ t.name
     names x y t f = ap (λ (u : Read). u.name) f
 
     together : r.reader ≡ s.reader → r.name ≡ s.name → r ≡ s
     together f g =
         let one : a ≡ c = one_of_name w a c am cm (named a b r rs ∙ f ∙ sym (named c d s ss)) in
-        let to : site_name b ≡ site_name d = names a b r rs ∙ g ∙ sym (names c d s ss) in
+        let to : candidate_name b ≡ candidate_name d = names a b r rs ∙ g ∙ sym (names c d s ss) in
         let rd : Reads w a d = subst (λ x. Reads w x d) (sym one) rd in
         let config : b.config ≡ d.config = configs_same w none a b d am rb rd to (decided_config b.config d.config) in
-        sym rs ∙ (λ i. record { reader = site_name (one i); config = config i; name = to i }) ∙ ss
+        sym rs ∙ (λ i. record { reader = candidate_name (one i); config = config i; name = to i }) ∙ ss
 
 reads_made : (w : Scene) → Lists w → ((m : List ℕ × List ℕ) → IsSameName w m → ⊥) → (rs : List Read) × AreReads w rs
 reads_made w lists none =

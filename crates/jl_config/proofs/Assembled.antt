@@ -9,16 +9,16 @@ use Rattle.jl_logic.specs.Order.{IsLeast, RisesBy}
 use Rattle.jl_logic.proofs.Rising.{contains_head, each_from_members}
 use Rattle.jl_config.specs.declared.fault.ResolveFault.{ResolveFault}
 use Rattle.jl_config.specs.declared.fault.ResolveFault.TheVariants.{NotFound, TooMany, Cycle, SameName, SamePackage, OwnPackage, ServicePackage, NoMemory}
-use Rattle.jl_config.specs.declared.site.Site.{Site}
+use Rattle.jl_config.specs.declared.candidate.Candidate.{Candidate}
 use Rattle.jl_config.specs.Configurations.{Configuration}
 use Rattle.jl_config.specs.Located.{Asked, Scene, scene_of}
 use Rattle.jl_config.specs.Members.{Enumerated, IsBound, IsMemberBy, IsMember}
-use Rattle.jl_config.specs.Orders.{module_cmp, site_cmp}
-use Rattle.jl_config.specs.Places.{AreMembers, sites_at, MissingFault, CycleFault, SameNameFault, SamePackageFault, OwnPackageFault, ServiceFault}
+use Rattle.jl_config.specs.Orders.{module_cmp, candidate_cmp}
+use Rattle.jl_config.specs.Places.{AreMembers, candidates_at, MissingFault, CycleFault, SameNameFault, SamePackageFault, OwnPackageFault, ServiceFault}
 use Rattle.jl_prim.specs.Limits.{most_modules}
 use Rattle.jl_config.specs.Refusals.{IsLarge, Applies, rank, fields, fields_cmp, fault_cmp}
-use Rattle.jl_config.specs.Resolves.{Resolves, AreModules, AreJustified, new_site}
-use Rattle.jl_config.proofs.FaultOrder.{fault_total, sites_total}
+use Rattle.jl_config.specs.Resolves.{Resolves, AreModules, AreJustified, new_candidate}
+use Rattle.jl_config.proofs.FaultOrder.{fault_total, candidates_total}
 use Rattle.jl_config.proofs.Always.{IsTooMany, module_here}
 use Rattle.jl_config.proofs.RisingLists.{not_below_itself, no_longer}
 use Rattle.jl_config.proofs.Unique.{told_by_least}
@@ -156,70 +156,70 @@ too_many_first q before k = first_refusal q 2 (TooManyFault q) (too_many_kind q)
 
 -- ---- what is bound
 
-enumerated_bound : (w : Scene) (n : ℕ) (s : Site) → Enumerated w n s → IsBound w s
+enumerated_bound : (w : Scene) (n : ℕ) (s : Candidate) → Enumerated w n s → IsBound w s
 enumerated_bound w zero s e = ([], (e.0, inl e.1, tt))
 enumerated_bound w (suc n) s (found, (p, e, needs)) =
     let before = enumerated_bound w n p e in
     (p ∷ before.0, (found, inr (inl (p, contains_head p before.0, needs)), before.1))
 
-member_bound_by : (b : Bool) (w : Scene) (s : Site) → IsMemberBy b w s → IsBound w s
+member_bound_by : (b : Bool) (w : Scene) (s : Candidate) → IsMemberBy b w s → IsBound w s
 member_bound_by true w s m = m
 member_bound_by false w s (n, e) = enumerated_bound w n s e
 
-pub member_bound : (w : Scene) (s : Site) → IsMember w s → IsBound w s
+pub member_bound : (w : Scene) (s : Candidate) → IsMember w s → IsBound w s
 member_bound w s m = member_bound_by w.binds w s m
 
 pub justified_by_members : (q : Asked) (g : Configuration) → AreModules q g.modules → AreJustified q g
-justified_by_members q g modules o c = member_bound (scene_of q) (new_site q o) (modules.only o c)
+justified_by_members q g modules o c = member_bound (scene_of q) (new_candidate q o) (modules.only o c)
 
 -- ---- members by their places, in order
 
-sites_long : (w : Scene) (ps : List ℕ) → All (λ p. p < length w.sites) ps → length (sites_at w ps) ≡ length ps
-sites_long w ps a = filter_map_long (slice_get w.sites) ps (each_from_members (λ p. (s : Site) × (slice_get w.sites p ≡ Some s)) ps (λ p c. item_at w.sites p (All-contains (λ k. k < length w.sites) ps p a c)))
+candidates_long : (w : Scene) (ps : List ℕ) → All (λ p. p < length w.candidates) ps → length (candidates_at w ps) ≡ length ps
+candidates_long w ps a = filter_map_long (slice_get w.candidates) ps (each_from_members (λ p. (s : Candidate) × (slice_get w.candidates p ≡ Some s)) ps (λ p c. item_at w.candidates p (All-contains (λ k. k < length w.candidates) ps p a c)))
 
-members_at : (w : Scene) (ps : List ℕ) → AreMembers w ps → (s : Site) → Contains (sites_at w ps) s → IsMember w s
-members_at w ps m s c = let k = from_filter_map (slice_get w.sites) ps s c in (m.only k.0 s k.1 k.2).0
+members_at : (w : Scene) (ps : List ℕ) → AreMembers w ps → (s : Candidate) → Contains (candidates_at w ps) s → IsMember w s
+members_at w ps m s c = let k = from_filter_map (slice_get w.candidates) ps s c in (m.only k.0 s k.1 k.2).0
 
-at_members : (w : Scene) (ps : List ℕ) → AreMembers w ps → (s : Site) → IsMember w s → Contains (sites_at w ps) s
-at_members w ps m s k = let r = m.all s k in into_filter_map (slice_get w.sites) ps r.0 s r.1 r.2
+at_members : (w : Scene) (ps : List ℕ) → AreMembers w ps → (s : Candidate) → IsMember w s → Contains (candidates_at w ps) s
+at_members w ps m s k = let r = m.all s k in into_filter_map (slice_get w.candidates) ps r.0 s r.1 r.2
 
 -- the set is too large exactly where there are more places than that
 pub large_by_places : (w : Scene) (ps : List ℕ) → AreMembers w ps → most_modules < length ps → IsLarge w
 large_by_places w ps m h =
-    let long : length (sites_at w ps) ≡ length ps = sites_long w ps m.within in
-    (sites_at w ps, m.rise, All-from_recursion (IsMember w) (sites_at w ps) (each_from_members (IsMember w) (sites_at w ps) (members_at w ps m)), more (length (sites_at w ps)) (length ps) long h)
+    let long : length (candidates_at w ps) ≡ length ps = candidates_long w ps m.within in
+    (candidates_at w ps, m.rise, All-from_recursion (IsMember w) (candidates_at w ps) (each_from_members (IsMember w) (candidates_at w ps) (members_at w ps m)), more (length (candidates_at w ps)) (length ps) long h)
   where
     more : (a b : ℕ) → a ≡ b → most_modules < b → most_modules < a
     more a b e l = omega arith
 
 pub not_large_by_places : (w : Scene) (ps : List ℕ) → AreMembers w ps → length ps ≤ most_modules → IsLarge w → ⊥
 not_large_by_places w ps m h large =
-    let long : length (sites_at w ps) ≡ length ps = sites_long w ps m.within in
-    let shorter : length large.0 ≤ length (sites_at w ps) = no_longer site_cmp sites_total large.0 (sites_at w ps) large.1 m.rise (λ s c. at_members w ps m s (All-contains (IsMember w) large.0 s large.2 c)) in
-    few (length large.0) (length (sites_at w ps)) (length ps) shorter long h large.3
+    let long : length (candidates_at w ps) ≡ length ps = candidates_long w ps m.within in
+    let shorter : length large.0 ≤ length (candidates_at w ps) = no_longer candidate_cmp candidates_total large.0 (candidates_at w ps) large.1 m.rise (λ s c. at_members w ps m s (All-contains (IsMember w) large.0 s large.2 c)) in
+    few (length large.0) (length (candidates_at w ps)) (length ps) shorter long h large.3
   where
     few : (a b c : ℕ) → a ≤ b → b ≡ c → c ≤ most_modules → most_modules < a → ⊥
     few a b c h e k l = omega arith
 
 -- ---- the modules, copied in the order of the places
 
-abbrev pub observed_of : Site → Observed
+abbrev pub observed_of : Candidate → Observed
 observed_of s = s.observed
 
-above_mapped : (s : Site) (ss : List Site) → AllByRecursion (λ t. site_cmp s t ≡ Less) ss → AllByRecursion (λ o. module_cmp s.observed o ≡ Less) (map observed_of ss)
+above_mapped : (s : Candidate) (ss : List Candidate) → AllByRecursion (λ t. candidate_cmp s t ≡ Less) ss → AllByRecursion (λ o. module_cmp s.observed o ≡ Less) (map observed_of ss)
 above_mapped s [] h = tt
 above_mapped s (t ∷ ss) h = (h.0, above_mapped s ss h.1)
 
-rises_mapped : (ss : List Site) → RisesBy site_cmp ss → RisesBy module_cmp (map observed_of ss)
+rises_mapped : (ss : List Candidate) → RisesBy candidate_cmp ss → RisesBy module_cmp (map observed_of ss)
 rises_mapped [] up = tt
 rises_mapped (s ∷ ss) up = (above_mapped s ss up.0, rises_mapped ss up.1)
 
-pub modules_by_places : (q : Asked) (ps : List ℕ) (os : List Observed) → AreMembers (scene_of q) ps → os ≡ map observed_of (sites_at (scene_of q) ps) → AreModules q os
+pub modules_by_places : (q : Asked) (ps : List ℕ) (os : List Observed) → AreMembers (scene_of q) ps → os ≡ map observed_of (candidates_at (scene_of q) ps) → AreModules q os
 modules_by_places q ps os m e = subst (AreModules q) (sym e) (record {
-  rise = rises_mapped (sites_at (scene_of q) ps) m.rise;
+  rise = rises_mapped (candidates_at (scene_of q) ps) m.rise;
   only = λ o c.
-      let r = from_map observed_of (sites_at (scene_of q) ps) o c in
+      let r = from_map observed_of (candidates_at (scene_of q) ps) o c in
       let here : IsMember (scene_of q) r.0 = members_at (scene_of q) ps m r.0 r.1 in
       subst (IsMember (scene_of q)) (module_here q r.0 o here r.2) here;
-  all = λ s k. into_map observed_of (sites_at (scene_of q) ps) s (at_members (scene_of q) ps m s k);
+  all = λ s k. into_map observed_of (candidates_at (scene_of q) ps) s (at_members (scene_of q) ps m s k);
 })

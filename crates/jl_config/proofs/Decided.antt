@@ -4,11 +4,11 @@ use Rattle.std.proofs.lemmas.List.{map-append, get_or_default}
 use Rattle.jl_prim.specs.declared.declaration.Observed.{Observed}
 use Rattle.jl_config.specs.declared.fault.ResolveFault.{ResolveFault}
 use Rattle.jl_config.specs.declared.fault.ResolveFault.TheVariants.{TooMany, NoParents}
-use Rattle.jl_config.specs.declared.site.Site.{Site}
+use Rattle.jl_config.specs.declared.candidate.Candidate.{Candidate}
 use Rattle.jl_config.specs.Configurations.{Configuration}
 use Rattle.jl_config.specs.Located.{Asked, Scene, scene_of, id_of}
 use Rattle.jl_config.specs.MemberRows.{modules_at}
-use Rattle.jl_config.specs.Places.{AreMembers, IsLeastSome, sites_at}
+use Rattle.jl_config.specs.Places.{AreMembers, IsLeastSome, candidates_at}
 use Rattle.jl_prim.specs.Limits.{most_modules}
 use Rattle.jl_config.specs.Refusals.{fault_cmp}
 use Rattle.jl_config.specs.Resolves.{Resolves, AreReads, AreJustified, IsConfigurationOf}
@@ -18,13 +18,13 @@ use Rattle.jl_config.proofs.Assembled.{IsKind, TooManyFault, none_further, nothi
 use Rattle.jl_config.proofs.Lists.{filter_map_step}
 
 -- one more module is copied
-pub copied_step : (w : Scene) (ps : List ℕ) (i : ℕ) (old new : List Observed) → i < length ps → old ≡ modules_at w (take i ps) → new ≡ old ++ map (λ (s : Site). s.observed) (option_to_list (slice_get w.sites (get_or ps i 0))) → new ≡ modules_at w (take (i + 1) ps)
+pub copied_step : (w : Scene) (ps : List ℕ) (i : ℕ) (old new : List Observed) → i < length ps → old ≡ modules_at w (take i ps) → new ≡ old ++ map (λ (s : Candidate). s.observed) (option_to_list (slice_get w.candidates (get_or ps i 0))) → new ≡ modules_at w (take (i + 1) ps)
 copied_step w ps i old new lt e f =
-    let seen : Site → Observed = λ s. s.observed in
-    let more : sites_at w (take i ps) ++ option_to_list (slice_get w.sites (get_or ps i 0)) ≡ sites_at w (take (i + 1) ps) =
-    filter_map_step (slice_get w.sites) ps i (get_or ps i 0) (sites_at w (take i ps)) (sites_at w (take i ps) ++ option_to_list (slice_get w.sites (get_or ps i 0))) lt (get_or_default ps i 0 (get_or ps i 0) lt) refl refl in
-    f ∙ ap (λ (l : List Observed). l ++ map seen (option_to_list (slice_get w.sites (get_or ps i 0)))) e
-    ∙ sym (map-append seen (sites_at w (take i ps)) (option_to_list (slice_get w.sites (get_or ps i 0)))) ∙ ap (map seen) more
+    let seen : Candidate → Observed = λ s. s.observed in
+    let more : candidates_at w (take i ps) ++ option_to_list (slice_get w.candidates (get_or ps i 0)) ≡ candidates_at w (take (i + 1) ps) =
+    filter_map_step (slice_get w.candidates) ps i (get_or ps i 0) (candidates_at w (take i ps)) (candidates_at w (take i ps) ++ option_to_list (slice_get w.candidates (get_or ps i 0))) lt (get_or_default ps i 0 (get_or ps i 0) lt) refl refl in
+    f ∙ ap (λ (l : List Observed). l ++ map seen (option_to_list (slice_get w.candidates (get_or ps i 0)))) e
+    ∙ sym (map-append seen (candidates_at w (take i ps)) (option_to_list (slice_get w.candidates (get_or ps i 0)))) ∙ ap (map seen) more
 
 module _ (q : Asked) (w : Scene) (same : w ≡ scene_of q) (K : Scene → ResolveFault → Type 0) (k : ℕ) (kind : IsKind q k (K (scene_of q))) (before : StartsAt q k) (found : Option ResolveFault) (sought : IsLeastSome fault_cmp (K w) found) where
   sought_here : IsLeastSome fault_cmp (K (scene_of q)) found

@@ -11,8 +11,8 @@ use Rattle.jl_logic.proofs.Rising.{apart_from_total}
 use Rattle.jl_config.specs.declared.configuration.Read.{Read}
 use Rattle.jl_config.specs.declared.fault.ResolveFault.{ResolveFault}
 use Rattle.jl_config.specs.declared.fault.ResolveFault.TheVariants.{NoParents, NotFound, TooMany, Cycle, SameName, SamePackage, OwnPackage, ServicePackage, NoMemory}
-use Rattle.jl_config.specs.Located.{name_of, site_name}
-use Rattle.jl_config.specs.Orders.{module_cmp, site_cmp, read_cmp}
+use Rattle.jl_config.specs.Located.{name_of, candidate_name}
+use Rattle.jl_config.specs.Orders.{module_cmp, candidate_cmp, read_cmp}
 use Rattle.jl_config.specs.Refusals.{rank, fields, fields_cmp, fault_cmp}
 use Rattle.jl_config.proofs.Names.{names_exact}
 use Rattle.jl_config.specs.MissingNames.{lack_cmp}
@@ -37,8 +37,8 @@ fault_total = then_total (on_total rank nat_cmp_total) (on_total fields (lists_t
 pub modules_total : IsTotalOrder module_cmp
 modules_total = on_total name_of nat_list_cmp_total
 
-pub sites_total : IsTotalOrder site_cmp
-sites_total = on_total site_name nat_list_cmp_total
+pub candidates_total : IsTotalOrder candidate_cmp
+candidates_total = on_total candidate_name nat_list_cmp_total
 
 pub reads_total : IsTotalOrder read_cmp
 reads_total = then_total (on_total (λ (r : Read). r.reader) nat_list_cmp_total) (on_total (λ (r : Read). r.name) nat_list_cmp_total)

@@ -3,9 +3,9 @@ use Rattle.std.proofs.Common.{◌≡◌, ◌+◌, ℕ, suc, List, [], ◌∷◌,
 use Rattle.std.proofs.lemmas.Bool.{eqb-true, eq-eqb, and_parts, and_from}
 use Rattle.std.proofs.Math.Bool.{and-false}
 use Rattle.jl_prim.specs.declared.numbers.ConfigId.{ConfigId}
-use Rattle.jl_config.specs.declared.site.Site.{Site}
-use Rattle.jl_config.specs.Located.{site_name, is_numbered, find_named, find_site}
-use Rattle.jl_config.specs.Places.{place_named, place_of_site}
+use Rattle.jl_config.specs.declared.candidate.Candidate.{Candidate}
+use Rattle.jl_config.specs.Located.{candidate_name, is_numbered, find_named, find_candidate}
+use Rattle.jl_config.specs.Places.{place_named, place_of_candidate}
 use Rattle.jl_config.specs.Tables.{first_where}
 use Rattle.jl_config.proofs.Names.{text_is}
 use Rattle.jl_config.proofs.Scenes.{first_named, own_test, first_own}
@@ -71,23 +71,23 @@ module _ {X : Type 0} (test : X → Bool) where
 
 -- ---- by a name
 
-named_find : (name : List ℕ) (ss : List Site) → find_named name ss ≡ find_where (is_named name) ss
+named_find : (name : List ℕ) (ss : List Candidate) → find_named name ss ≡ find_where (is_named name) ss
 named_find name [] = refl
-named_find name (s ∷ ss) = ap (λ (o : Option Site). cond (is_named name s) (Some s) o) (named_find name ss)
+named_find name (s ∷ ss) = ap (λ (o : Option Candidate). cond (is_named name s) (Some s) o) (named_find name ss)
 
-pub record NamedAt (name : List ℕ) (ss : List Site) (p : ℕ) (s : Site) : Type 0 where
+pub record NamedAt (name : List ℕ) (ss : List Candidate) (p : ℕ) (s : Candidate) : Type 0 where
   pub at : slice_get ss p ≡ Some s
   pub found : find_named name ss ≡ Some s
   pub first : place_named name ss ≡ Some p
-  pub named : site_name s ≡ name
+  pub named : candidate_name s ≡ name
 
-as_named : (name : List ℕ) (ss : List Site) (p : ℕ) (s : Site) → FirstAt (is_named name) ss p s → NamedAt name ss p s
-as_named name ss p s f = record { at = f.at; found = named_find name ss ∙ f.found; first = first_named name ss ∙ f.first; named = text_is (site_name s) name f.passes }
+as_named : (name : List ℕ) (ss : List Candidate) (p : ℕ) (s : Candidate) → FirstAt (is_named name) ss p s → NamedAt name ss p s
+as_named name ss p s f = record { at = f.at; found = named_find name ss ∙ f.found; first = first_named name ss ∙ f.first; named = text_is (candidate_name s) name f.passes }
 
-pub named_shows : (name : List ℕ) (ss : List Site) (p : ℕ) → place_named name ss ≡ Some p → (s : Site) × NamedAt name ss p s
+pub named_shows : (name : List ℕ) (ss : List Candidate) (p : ℕ) → place_named name ss ≡ Some p → (s : Candidate) × NamedAt name ss p s
 named_shows name ss p e = let r = where_shows (is_named name) ss p (sym (first_named name ss) ∙ e) in (r.0, as_named name ss p r.0 r.1)
 
-pub named_place : (name : List ℕ) (ss : List Site) (s : Site) → find_named name ss ≡ Some s → (p : ℕ) × NamedAt name ss p s
+pub named_place : (name : List ℕ) (ss : List Candidate) (s : Candidate) → find_named name ss ≡ Some s → (p : ℕ) × NamedAt name ss p s
 named_place name ss s e = let r = where_place (is_named name) ss s (sym (named_find name ss) ∙ e) in (r.0, as_named name ss r.0 s r.1)
 
 -- ---- by a configuration and a name
@@ -95,28 +95,28 @@ named_place name ss s e = let r = where_place (is_named name) ss s (sym (named_f
 pub same_number : (a b : ConfigId) → is_numbered a b ≡ true → a ≡ b
 same_number a b e = let n : a.0 ≡ b.0 = eqb-true a.0 b.0 e in λ i. record { 0 = n i }
 
-own_find : (config : ConfigId) (name : List ℕ) (ss : List Site) → find_site config name ss ≡ find_where (own_test config name) ss
+own_find : (config : ConfigId) (name : List ℕ) (ss : List Candidate) → find_candidate config name ss ≡ find_where (own_test config name) ss
 own_find config name [] = refl
-own_find config name (s ∷ ss) = ap (λ (o : Option Site). cond (own_test config name s) (Some s) o) (own_find config name ss)
+own_find config name (s ∷ ss) = ap (λ (o : Option Candidate). cond (own_test config name s) (Some s) o) (own_find config name ss)
 
-pub record OwnAt (config : ConfigId) (name : List ℕ) (ss : List Site) (p : ℕ) (s : Site) : Type 0 where
+pub record OwnAt (config : ConfigId) (name : List ℕ) (ss : List Candidate) (p : ℕ) (s : Candidate) : Type 0 where
   pub at : slice_get ss p ≡ Some s
-  pub found : find_site config name ss ≡ Some s
-  pub first : place_of_site config name ss ≡ Some p
+  pub found : find_candidate config name ss ≡ Some s
+  pub first : place_of_candidate config name ss ≡ Some p
   pub numbered : s.config ≡ config
-  pub named : site_name s ≡ name
+  pub named : candidate_name s ≡ name
 
-as_own : (config : ConfigId) (name : List ℕ) (ss : List Site) (p : ℕ) (s : Site) → FirstAt (own_test config name) ss p s → OwnAt config name ss p s
+as_own : (config : ConfigId) (name : List ℕ) (ss : List Candidate) (p : ℕ) (s : Candidate) → FirstAt (own_test config name) ss p s → OwnAt config name ss p s
 as_own config name ss p s f =
     let both = and_parts (is_numbered s.config config) (is_named name s) f.passes in
-    record { at = f.at; found = own_find config name ss ∙ f.found; first = first_own config name ss ∙ f.first; numbered = same_number s.config config both.0; named = text_is (site_name s) name both.1 }
+    record { at = f.at; found = own_find config name ss ∙ f.found; first = first_own config name ss ∙ f.first; numbered = same_number s.config config both.0; named = text_is (candidate_name s) name both.1 }
 
-pub own_shows : (config : ConfigId) (name : List ℕ) (ss : List Site) (p : ℕ) → place_of_site config name ss ≡ Some p → (s : Site) × OwnAt config name ss p s
+pub own_shows : (config : ConfigId) (name : List ℕ) (ss : List Candidate) (p : ℕ) → place_of_candidate config name ss ≡ Some p → (s : Candidate) × OwnAt config name ss p s
 own_shows config name ss p e = let r = where_shows (own_test config name) ss p (sym (first_own config name ss) ∙ e) in (r.0, as_own config name ss p r.0 r.1)
 
-pub own_place_of : (config : ConfigId) (name : List ℕ) (ss : List Site) (s : Site) → find_site config name ss ≡ Some s → (p : ℕ) × OwnAt config name ss p s
+pub own_place_of : (config : ConfigId) (name : List ℕ) (ss : List Candidate) (s : Candidate) → find_candidate config name ss ≡ Some s → (p : ℕ) × OwnAt config name ss p s
 own_place_of config name ss s e = let r = where_place (own_test config name) ss s (sym (own_find config name ss) ∙ e) in (r.0, as_own config name ss r.0 s r.1)
 
 -- the first of a name is the first of its configuration and name too
-pub named_first : (name : List ℕ) (ss : List Site) (p : ℕ) (s : Site) → place_named name ss ≡ Some p → slice_get ss p ≡ Some s → place_of_site s.config name ss ≡ Some p
+pub named_first : (name : List ℕ) (ss : List Candidate) (p : ℕ) (s : Candidate) → place_named name ss ≡ Some p → slice_get ss p ≡ Some s → place_of_candidate s.config name ss ≡ Some p
 named_first name ss p s e at = first_own s.config name ss ∙ first_of_both (is_named name) (λ v. is_numbered v.config s.config) ss p s (sym (first_named name ss) ∙ e) at (eq-eqb s.config.0 s.config.0 refl)

@@ -4,43 +4,43 @@ use Rattle.std.specs.List.{AllByRecursion, cons_option}
 use Rattle.std.proofs.lemmas.Option.{slice_get_within}
 use Rattle.jl_logic.specs.Order.{is_text, name_cmp, RisesBy}
 use Rattle.jl_logic.proofs.Rising.{contains_head, contains_tail, contains_cases, contains_nothing, each_of_member}
-use Rattle.jl_config.specs.declared.site.Site.{Site}
+use Rattle.jl_config.specs.declared.candidate.Candidate.{Candidate}
 use Rattle.jl_config.specs.declared.placed.Placed.{Placed}
-use Rattle.jl_config.specs.Located.{Scene, site_name}
-use Rattle.jl_config.specs.Orders.{site_cmp}
+use Rattle.jl_config.specs.Located.{Scene, candidate_name}
+use Rattle.jl_config.specs.Orders.{candidate_cmp}
 use Rattle.jl_config.specs.Placed.{placed_cmp, place_in, marked_place}
-use Rattle.jl_config.specs.Places.{place_named, AreMarks, AreMembers, sites_at}
+use Rattle.jl_config.specs.Places.{place_named, AreMarks, AreMembers, candidates_at}
 use Rattle.jl_config.proofs.Lists.{into_map, from_map, all_of, same_item}
 use Rattle.jl_config.proofs.MemberFinds.{FoundAt, found_where, member_found}
 use Rattle.jl_config.proofs.MemberOrder.{label}
 use Rattle.jl_config.proofs.Names.{text_is, text_itself, less_other}
 use Rattle.std.proofs.lemmas.Bool.{and_parts}
 
-abbrev Marked : List ℕ → ℕ → List Site → List Bool → ℕ → Type 0
-Marked q p ss ms v = (k : ℕ) × (s : Site) × (slice_get ss k ≡ Some s) × (slice_get ms k ≡ Some true) × (site_name s ≡ q) × (p + k ≡ v)
+abbrev Marked : List ℕ → ℕ → List Candidate → List Bool → ℕ → Type 0
+Marked q p ss ms v = (k : ℕ) × (s : Candidate) × (slice_get ss k ≡ Some s) × (slice_get ms k ≡ Some true) × (candidate_name s ≡ q) × (p + k ≡ v)
 
-marked_shows : (q : List ℕ) (p : ℕ) (ss : List Site) (ms : List Bool) (v : ℕ) → marked_place q p ss ms ≡ Some v → Marked q p ss ms v
+marked_shows : (q : List ℕ) (p : ℕ) (ss : List Candidate) (ms : List Bool) (v : ℕ) → marked_place q p ss ms ≡ Some v → Marked q p ss ms v
 marked_shows q p [] ms v e = absurd cc
 marked_shows q p (s ∷ ss) [] v e = absurd cc
-marked_shows q p (s ∷ ss) (m ∷ ms) v e = by (marked_shows q (p + 1) ss ms v) (m && is_text (site_name s) q) refl e
+marked_shows q p (s ∷ ss) (m ∷ ms) v e = by (marked_shows q (p + 1) ss ms v) (m && is_text (candidate_name s) q) refl e
   where
-    by : (marked_place q (p + 1) ss ms ≡ Some v → Marked q (p + 1) ss ms v) → (b : Bool) → (m && is_text (site_name s) q) ≡ b → cond b (Some p) (marked_place q (p + 1) ss ms) ≡ Some v → Marked q p (s ∷ ss) (m ∷ ms) v
+    by : (marked_place q (p + 1) ss ms ≡ Some v → Marked q (p + 1) ss ms v) → (b : Bool) → (m && is_text (candidate_name s) q) ≡ b → cond b (Some p) (marked_place q (p + 1) ss ms) ≡ Some v → Marked q p (s ∷ ss) (m ∷ ms) v
     by more true f g =
-        let both = and_parts m (is_text (site_name s) q) f in
+        let both = and_parts m (is_text (candidate_name s) q) f in
         let at : p ≡ v = cc in
-        (0, s, refl, ap Some both.0, text_is (site_name s) q both.1, omega (arith, at))
+        (0, s, refl, ap Some both.0, text_is (candidate_name s) q both.1, omega (arith, at))
     by more false f g = let r = more g in (suc r.0, r.1, r.2, r.3, r.4, omega (arith, r.5))
 
-marked_has : (q : List ℕ) (p : ℕ) (ss : List Site) (ms : List Bool) (k : ℕ) (s : Site) → slice_get ss k ≡ Some s → slice_get ms k ≡ Some true → site_name s ≡ q → (v : ℕ) × (marked_place q p ss ms ≡ Some v)
+marked_has : (q : List ℕ) (p : ℕ) (ss : List Candidate) (ms : List Bool) (k : ℕ) (s : Candidate) → slice_get ss k ≡ Some s → slice_get ms k ≡ Some true → candidate_name s ≡ q → (v : ℕ) × (marked_place q p ss ms ≡ Some v)
 marked_has q p [] ms k s at m n = absurd cc
 marked_has q p (t ∷ ss) [] k s at m n = absurd cc
 marked_has q p (t ∷ ss) (b ∷ ms) zero s at m n =
     let same : s ≡ t = cc in
     let set : b ≡ true = cc in
-    let named : is_text (site_name t) q ≡ true = ap (λ (u : Site). is_text (site_name u) q) (sym same) ∙ ap (λ (l : List ℕ). is_text l q) n ∙ text_itself q in
-    let here : (b && is_text (site_name t) q) ≡ true = ap (λ (c : Bool). c && is_text (site_name t) q) set ∙ named in
+    let named : is_text (candidate_name t) q ≡ true = ap (λ (u : Candidate). is_text (candidate_name u) q) (sym same) ∙ ap (λ (l : List ℕ). is_text l q) n ∙ text_itself q in
+    let here : (b && is_text (candidate_name t) q) ≡ true = ap (λ (c : Bool). c && is_text (candidate_name t) q) set ∙ named in
     (p, ap (λ (c : Bool). cond c (Some p) (marked_place q (p + 1) ss ms)) here)
-marked_has q p (t ∷ ss) (b ∷ ms) (suc k) s at m n = by (b && is_text (site_name t) q) (marked_has q (p + 1) ss ms k s at m n)
+marked_has q p (t ∷ ss) (b ∷ ms) (suc k) s at m n = by (b && is_text (candidate_name t) q) (marked_has q (p + 1) ss ms k s at m n)
   where
     by : (c : Bool) → (v : ℕ) × (marked_place q (p + 1) ss ms ≡ Some v) → (v : ℕ) × (cond c (Some p) (marked_place q (p + 1) ss ms) ≡ Some v)
     by true more = (p, refl)
@@ -65,39 +65,39 @@ own_place_in (w ∷ xs) x up c = ⊎_elim (λ e. subst (λ (v : Placed). place_i
     later : Contains xs x → place_in (label x) xs ≡ Some x.place → place_in (label x) (w ∷ xs) ≡ Some x.place
     later k e = rw (less_other (label w) (label x) (each_of_member (λ v. placed_cmp w v ≡ Less) xs x up.0 k)) e
 
-module _ (w : Scene) (marks : List Bool) (xs : List Placed) (right : AreMarks w marks) (up : RisesBy placed_cmp xs) (finds : (q : List ℕ) → place_in q xs ≡ marked_place q 0 w.sites marks) where
+module _ (w : Scene) (marks : List Bool) (xs : List Placed) (right : AreMarks w marks) (up : RisesBy placed_cmp xs) (finds : (q : List ℕ) → place_in q xs ≡ marked_place q 0 w.candidates marks) where
   -- the module at the place of one of the list
   abbrev Stands : Placed → Type 0
-  Stands x = (s : Site) × (slice_get w.sites x.place ≡ Some s) × (slice_get marks x.place ≡ Some true) × (site_name s ≡ label x)
+  Stands x = (s : Candidate) × (slice_get w.candidates x.place ≡ Some s) × (slice_get marks x.place ≡ Some true) × (candidate_name s ≡ label x)
 
   stands : (x : Placed) → Contains xs x → Stands x
   stands x c =
-      let r = marked_shows (label x) 0 w.sites marks x.place (sym (finds (label x)) ∙ own_place_in xs x up c) in
+      let r = marked_shows (label x) 0 w.candidates marks x.place (sym (finds (label x)) ∙ own_place_in xs x up c) in
       let k : r.0 ≡ x.place = omega (arith, r.5) in
-      (r.1, subst (λ (n : ℕ). slice_get w.sites n ≡ Some r.1) k r.2, subst (λ (n : ℕ). slice_get marks n ≡ Some true) k r.3, r.4)
+      (r.1, subst (λ (n : ℕ). slice_get w.candidates n ≡ Some r.1) k r.2, subst (λ (n : ℕ). slice_get marks n ≡ Some true) k r.3, r.4)
 
-  sites_each : (ys : List Placed) → ((y : Placed) → Contains ys y → Stands y) → (x : Placed) (s : Site) → site_name s ≡ label x → AllByRecursion (λ y. placed_cmp x y ≡ Less) ys → AllByRecursion (λ t. site_cmp s t ≡ Less) (sites_at w (map (λ (y : Placed). y.place) ys))
-  sites_each [] h x s n low = tt
-  sites_each (y ∷ ys) h x s n low =
+  candidates_each : (ys : List Placed) → ((y : Placed) → Contains ys y → Stands y) → (x : Placed) (s : Candidate) → candidate_name s ≡ label x → AllByRecursion (λ y. placed_cmp x y ≡ Less) ys → AllByRecursion (λ t. candidate_cmp s t ≡ Less) (candidates_at w (map (λ (y : Placed). y.place) ys))
+  candidates_each [] h x s n low = tt
+  candidates_each (y ∷ ys) h x s n low =
       let r = h y (contains_head y ys) in
-      let less : site_cmp s r.0 ≡ Less = ap₂ name_cmp n r.3 ∙ low.0 in
-      let rest : AllByRecursion (λ t. site_cmp s t ≡ Less) (sites_at w (map (λ (y : Placed). y.place) ys)) = sites_each ys (λ z c. h z (contains_tail y z ys c)) x s n low.1 in
-      subst (λ (o : Option Site). AllByRecursion (λ t. site_cmp s t ≡ Less) (cons_option o (sites_at w (map (λ (y : Placed). y.place) ys)))) (sym r.1) (less, rest)
+      let less : candidate_cmp s r.0 ≡ Less = ap₂ name_cmp n r.3 ∙ low.0 in
+      let rest : AllByRecursion (λ t. candidate_cmp s t ≡ Less) (candidates_at w (map (λ (y : Placed). y.place) ys)) = candidates_each ys (λ z c. h z (contains_tail y z ys c)) x s n low.1 in
+      subst (λ (o : Option Candidate). AllByRecursion (λ t. candidate_cmp s t ≡ Less) (cons_option o (candidates_at w (map (λ (y : Placed). y.place) ys)))) (sym r.1) (less, rest)
 
-  sites_rise : (ys : List Placed) → ((y : Placed) → Contains ys y → Stands y) → RisesBy placed_cmp ys → RisesBy site_cmp (sites_at w (map (λ (y : Placed). y.place) ys))
-  sites_rise [] h rise = tt
-  sites_rise (y ∷ ys) h rise =
+  candidates_rise : (ys : List Placed) → ((y : Placed) → Contains ys y → Stands y) → RisesBy placed_cmp ys → RisesBy candidate_cmp (candidates_at w (map (λ (y : Placed). y.place) ys))
+  candidates_rise [] h rise = tt
+  candidates_rise (y ∷ ys) h rise =
       let r = h y (contains_head y ys) in
       let more = λ (z : Placed) (c : Contains ys z). h z (contains_tail y z ys c) in
-      subst (λ (o : Option Site). RisesBy site_cmp (cons_option o (sites_at w (map (λ (y : Placed). y.place) ys)))) (sym r.1) (sites_each ys more y r.0 r.3 rise.0, sites_rise ys more rise.1)
+      subst (λ (o : Option Candidate). RisesBy candidate_cmp (cons_option o (candidates_at w (map (λ (y : Placed). y.place) ys)))) (sym r.1) (candidates_each ys more y r.0 r.3 rise.0, candidates_rise ys more rise.1)
 
   pub members_right : AreMembers w (map (λ (x : Placed). x.place) xs)
   members_right = record {
-    within = all_of (λ p. p < length w.sites) (map (λ (x : Placed). x.place) xs) (λ p c.
+    within = all_of (λ p. p < length w.candidates) (map (λ (x : Placed). x.place) xs) (λ p c.
         let r = from_map (λ (x : Placed). x.place) xs p c in
         let s = stands r.0 r.1 in
-        subst (λ (n : ℕ). n < length w.sites) r.2 (slice_get_within w.sites r.0.place s.0 s.1));
-    rise = sites_rise xs stands up;
+        subst (λ (n : ℕ). n < length w.candidates) r.2 (slice_get_within w.candidates r.0.place s.0 s.1));
+    rise = candidates_rise xs stands up;
     only = λ p s c at.
         let r = from_map (λ (x : Placed). x.place) xs p c in
         let t = stands r.0 r.1 in
@@ -106,12 +106,12 @@ module _ (w : Scene) (marks : List Bool) (xs : List Placed) (right : AreMarks w 
         let r = found_where w s (member_found w s m) in
         let f : FoundAt w r.0 s = r.1 in
         let mark : slice_get marks r.0 ≡ Some true = right.all r.0 s f.at m f.first in
-        let v = marked_has (site_name s) 0 w.sites marks r.0 s f.at mark refl in
-        let x = placed_there (site_name s) xs v.0 (finds (site_name s) ∙ v.1) in
-        let b = marked_shows (site_name s) 0 w.sites marks v.0 v.1 in
+        let v = marked_has (candidate_name s) 0 w.candidates marks r.0 s f.at mark refl in
+        let x = placed_there (candidate_name s) xs v.0 (finds (candidate_name s) ∙ v.1) in
+        let b = marked_shows (candidate_name s) 0 w.candidates marks v.0 v.1 in
         let k : b.0 ≡ v.0 = omega (arith, b.5) in
-        let first : place_named (site_name b.1) w.sites ≡ Some b.0 = (right.only b.0 b.1 b.2 b.3).1 in
-        let same : b.0 ≡ r.0 = same_item b.0 r.0 (place_named (site_name s) w.sites) (ap (λ (n : List ℕ). place_named n w.sites) (sym b.4) ∙ first) f.first in
+        let first : place_named (candidate_name b.1) w.candidates ≡ Some b.0 = (right.only b.0 b.1 b.2 b.3).1 in
+        let same : b.0 ≡ r.0 = same_item b.0 r.0 (place_named (candidate_name s) w.candidates) (ap (λ (n : List ℕ). place_named n w.candidates) (sym b.4) ∙ first) f.first in
         let at : x.0.place ≡ r.0 = x.2 ∙ sym k ∙ same in
         (r.0, subst (Contains (map (λ (x : Placed). x.place) xs)) at (into_map (λ (x : Placed). x.place) xs x.0 x.1), f.at);
   }

@@ -14,8 +14,8 @@ use Rattle.jl_config.specs.declared.imports.Exported.{Exported}
 use Rattle.jl_config.specs.declared.imports.Imports.{Imports}
 use Rattle.jl_config.specs.declared.packages.SharedPackage.{SharedPackage}
 use Rattle.jl_config.specs.declared.packages.OwnedPackage.{OwnedPackage}
-use Rattle.jl_config.specs.declared.site.Site.{Site}
-use Rattle.jl_config.specs.Located.{Scene, site_name}
+use Rattle.jl_config.specs.declared.candidate.Candidate.{Candidate}
+use Rattle.jl_config.specs.Located.{Scene, candidate_name}
 use Rattle.jl_config.specs.Places.{IsLeastSome, SamePackageFault, OwnPackageFault}
 use Rattle.jl_config.specs.Refusals.{Holds, Exports, IsSamePackage, IsOwnPackage, fault_cmp}
 use Rattle.jl_config.specs.ReadRows.{option_name, name_at}
@@ -31,11 +31,11 @@ shared_later w m i c h = h.2
 pub shared_within : (w : Scene) (m : Imports) (i : ℕ) (c : SharedPackage) → IsPackageSharedAt w m i c → i < length m.exported
 shared_within w m i c h = slice_get_within m.exported i h.1 h.4
 
-named_reader : (w : Scene) (m : Imports) (a : Site) → IsImportOf w m a → name_at w m.reader ≡ site_name a
+named_reader : (w : Scene) (m : Imports) (a : Candidate) → IsImportOf w m a → name_at w m.reader ≡ candidate_name a
 named_reader w m a h = ap option_name h.here
 
 -- two that rise, by their places
-exports_rise : (w : Scene) (m : Imports) (a : Site) (i j : ℕ) (d e : Exported) → IsImportOf w m a → i < j → slice_get m.exported i ≡ Some d → slice_get m.exported j ≡ Some e → exported_cmp d e ≡ Less
+exports_rise : (w : Scene) (m : Imports) (a : Candidate) (i j : ℕ) (d e : Exported) → IsImportOf w m a → i < j → slice_get m.exported i ≡ Some d → slice_get m.exported j ≡ Some e → exported_cmp d e ≡ Less
 exports_rise w m a i j d e h lt at be =
     let l : exported_cmp (get_or m.exported i d) (get_or m.exported j d) ≡ Less = rising_at exported_cmp m.exported h.rise i j d lt (slice_get_within m.exported j e be) in
     rw (get_or_from_slice_get m.exported i d d at, get_or_from_slice_get m.exported j e d be) at l
@@ -52,7 +52,7 @@ less_apart a b l e =
     let f : name_cmp a a ≡ Less = subst (λ n. name_cmp a n ≡ Less) (sym e) l in
     apart_from_total name_cmp nat_list_cmp_total a a f f
 
-pub shared_sound : (w : Scene) (m : Imports) (a : Site) (c : SharedPackage) → IsImportOf w m a → IsPackageShared w m c → IsSamePackage w (c.reader, c.«package», c.one, c.other)
+pub shared_sound : (w : Scene) (m : Imports) (a : Candidate) (c : SharedPackage) → IsImportOf w m a → IsPackageShared w m c → IsSamePackage w (c.reader, c.«package», c.one, c.other)
 shared_sound w m a c h s =
     let t = s.1 in
     let d : Exported = t.0 in
@@ -61,13 +61,13 @@ shared_sound w m a c h s =
     let k = h.only e (contains_at m.exported s.0 e t.4) in
     let later = t.2 in
     let rise : name_cmp d.exporter e.exporter ≡ Less = exporters_rise d e t.5 (exports_rise w m a (s.0 - 1) s.0 d e h (omega arith) t.3 t.4) in
-    let reader : site_name a ≡ name_at w m.reader = sym (named_reader w m a h) in
+    let reader : candidate_name a ≡ name_at w m.reader = sym (named_reader w m a h) in
     subst (λ (x : SharedPackage). IsSamePackage w (x.reader, x.«package», x.one, x.other)) (sym t.6) (
       a,
       b.0,
       k.0,
       reader,
-      (h.member, b.1, subst (λ p. Exports b.0 p (site_name a)) t.5 b.2.0),
+      (h.member, b.1, subst (λ p. Exports b.0 p (candidate_name a)) t.5 b.2.0),
       (h.member, k.1, k.2.0),
       sym b.2.1,
       sym k.2.1,
@@ -102,15 +102,15 @@ whole r p o t = record { reader = r; «package» = p; one = o; other = t }
 pub shared_record : (r p o t s q n u : List ℕ) → r ≡ s → p ≡ q → o ≡ n → t ≡ u → whole r p o t ≡ whole s q n u
 shared_record r p o t s q n u a b c d = λ i. record { reader = a i; «package» = b i; one = c i; other = d i }
 
-pub import_within : (w : Scene) (m : Imports) → IsImport w m → m.reader < length w.sites
-import_within w m h = slice_get_within w.sites m.reader h.0 h.1.here
+pub import_within : (w : Scene) (m : Imports) → IsImport w m → m.reader < length w.candidates
+import_within w m h = slice_get_within w.candidates m.reader h.0 h.1.here
 
-module _ (w : Scene) (m : Imports) (s : Site) (at : slice_get w.sites m.reader ≡ Some s) where
+module _ (w : Scene) (m : Imports) (s : Candidate) (at : slice_get w.candidates m.reader ≡ Some s) where
   pub owned_in : (c : OwnedPackage) → Among (IsOwned s) m.exported c → IsOwnedIn w m c
   owned_in c h = (s, at, h.0, h.1, h.2)
 
   pub owned_from : (c : OwnedPackage) → IsOwnedIn w m c → Among (IsOwned s) m.exported c
-  owned_from c h = let f : h.0 ≡ s = same_item h.0 s (slice_get w.sites m.reader) h.1 at in (h.2, h.3, subst (λ v. IsOwned v h.2 c) f h.4)
+  owned_from c h = let f : h.0 ≡ s = same_item h.0 s (slice_get w.candidates m.reader) h.1 at in (h.2, h.3, subst (λ v. IsOwned v h.2 c) f h.4)
 
 -- ---- the least two
 
@@ -126,8 +126,8 @@ record Pair (w : Scene) (m : Imports) (reader p one other : List ℕ) : Type 0 w
   pub is : IsPackageShared w m (record { reader = reader; «package» = p; one = one; other = second })
   pub least : name_cmp other second ≢ Less
 
-pair_after : (w : Scene) (m : Imports) (a : Site) (i j : ℕ) (d e : Exported) → IsImportOf w m a → i < j → slice_get m.exported i ≡ Some d → slice_get m.exported j ≡ Some e → d.«package» ≡ e.«package»
-    → Pair w m (site_name a) e.«package» d.exporter e.exporter
+pair_after : (w : Scene) (m : Imports) (a : Candidate) (i j : ℕ) (d e : Exported) → IsImportOf w m a → i < j → slice_get m.exported i ≡ Some d → slice_get m.exported j ≡ Some e → d.«package» ≡ e.«package»
+    → Pair w m (candidate_name a) e.«package» d.exporter e.exporter
 pair_after w m a i j d e h lt at be same =
     let within : j < length m.exported = slice_get_within m.exported j e be in
     let next = item_at m.exported (i + 1) (omega arith) in
@@ -172,12 +172,12 @@ not_greater Greater n e = absurd cc
 pub shared_complete : (w : Scene) (ms : List Imports) (reader p one other : List ℕ) → AreImports w ms → IsSamePackage w (reader, p, one, other)
     → (x : SharedPackage) × Among (IsPackageShared w) ms x × (fault_cmp (SamePackage reader p one other) (same_package_fault x) ≢ Less)
 shared_complete w ms reader p one other right s =
-    let a : Site = s.0 in
-    let b : Site = s.1 in
-    let c : Site = s.2 in
+    let a : Candidate = s.0 in
+    let b : Candidate = s.1 in
+    let c : Candidate = s.2 in
     let m = right.all a s.4.0 in
-    let d : Exported = record { «package» = p; exporter = site_name b } in
-    let e : Exported = record { «package» = p; exporter = site_name c } in
+    let d : Exported = record { «package» = p; exporter = candidate_name b } in
+    let e : Exported = record { «package» = p; exporter = candidate_name c } in
     let i = m.2.all b p s.4.1 s.4.2 (λ f. s.8 (sym s.6 ∙ f ∙ s.3)) in
     let j = m.2.all c p s.5.1 s.5.2 (λ f. s.9 (sym s.7 ∙ f ∙ s.3)) in
     let at = at_index m.0.exported d i in
@@ -185,17 +185,17 @@ shared_complete w ms reader p one other right s =
     ⊎_elim
     (λ lt.
     let pair = pair_after w m.0 a i.0 j.0 d e m.2 lt at be refl in (
-      record { reader = site_name a; «package» = p; one = site_name b; other = pair.second },
+      record { reader = candidate_name a; «package» = p; one = candidate_name b; other = pair.second },
       (m.0, m.1, pair.is),
-      first_pair reader p one other (site_name a) (site_name b) (site_name c) pair.second s.3 s.6 s.7 pair.least,
+      first_pair reader p one other (candidate_name a) (candidate_name b) (candidate_name c) pair.second s.3 s.6 s.7 pair.least,
     ))
     (λ le. ⊎_elim
     (λ gt.
     let pair = pair_after w m.0 a j.0 i.0 e d m.2 gt be at refl in
-    let less : name_cmp (site_name c) (site_name b) ≡ Less = exporters_rise e d refl (exports_rise w m.0 a j.0 i.0 e d m.2 gt be at) in (
-      record { reader = site_name a; «package» = p; one = site_name c; other = pair.second },
+    let less : name_cmp (candidate_name c) (candidate_name b) ≡ Less = exporters_rise e d refl (exports_rise w m.0 a j.0 i.0 e d m.2 gt be at) in (
+      record { reader = candidate_name a; «package» = p; one = candidate_name c; other = pair.second },
       (m.0, m.1, pair.is),
-      second_pair reader p one other (site_name a) (site_name b) (site_name c) pair.second s.3 s.6 less,
+      second_pair reader p one other (candidate_name a) (candidate_name b) (candidate_name c) pair.second s.3 s.6 less,
     ))
     (λ ge.
     let f : i.0 ≡ j.0 = omega (arith, le, ge) in
@@ -239,21 +239,21 @@ least_shared w ms found cmp o right adds least order =
 
 -- ---- packages that the reader has
 
-pub owned_sound : (w : Scene) (m : Imports) (a : Site) (c : OwnedPackage) → IsImportOf w m a → IsOwnedIn w m c → IsOwnPackage w (c.reader, c.«package», c.other)
+pub owned_sound : (w : Scene) (m : Imports) (a : Candidate) (c : OwnedPackage) → IsImportOf w m a → IsOwnedIn w m c → IsOwnPackage w (c.reader, c.«package», c.other)
 owned_sound w m a c h s =
     let e : Exported = s.2 in
     let b = h.only e s.3 in
     let o = s.4 in
-    let same : s.0 ≡ a = same_item s.0 a (slice_get w.sites m.reader) s.1 h.here in
+    let same : s.0 ≡ a = same_item s.0 a (slice_get w.candidates m.reader) s.1 h.here in
     subst (λ (x : OwnedPackage). IsOwnPackage w (x.reader, x.«package», x.other)) (sym o.1)
-    (a, b.0, ap site_name (sym same), subst (λ (v : Site). Holds v e.«package») same o.0, (h.member, b.1, b.2.0), sym b.2.1, λ f. b.3 (sym b.2.1 ∙ f ∙ ap site_name same))
+    (a, b.0, ap candidate_name (sym same), subst (λ (v : Candidate). Holds v e.«package») same o.0, (h.member, b.1, b.2.0), sym b.2.1, λ f. b.3 (sym b.2.1 ∙ f ∙ ap candidate_name same))
 
 pub owned_complete : (w : Scene) (ms : List Imports) (reader p other : List ℕ) → AreImports w ms → IsOwnPackage w (reader, p, other) → Among (IsOwnedIn w) ms (record { reader = reader; «package» = p; other = other })
 owned_complete w ms reader p other right s =
-    let a : Site = s.0 in
-    let b : Site = s.1 in
+    let a : Candidate = s.0 in
+    let b : Candidate = s.1 in
     let m = right.all a s.4.0 in
-    let e : Exported = record { «package» = p; exporter = site_name b } in
+    let e : Exported = record { «package» = p; exporter = candidate_name b } in
     (m.0, m.1, (a, m.2.here, e, m.2.all b p s.4.1 s.4.2 (λ f. s.6 (sym s.5 ∙ f ∙ s.2)), (s.3, λ i. record { reader = sym s.2 i; «package» = p; other = sym s.5 i })))
 
 pub least_owned : (w : Scene) (ms : List Imports) (found : List OwnedPackage) (cmp : OwnedPackage → OwnedPackage → Ordering) (o : Option OwnedPackage) → AreImports w ms → Adds [] found (Among (IsOwnedIn w) ms)

@@ -4,10 +4,10 @@ use Rattle.std.proofs.lemmas.Grind.{common_steps}
 use Rattle.std.proofs.lemmas.List.{take_more}
 use Rattle.jl_prim.specs.declared.numbers.ConfigId.{ConfigId}
 use Rattle.jl_config.specs.declared.configuration.Read.{Read}
-use Rattle.jl_config.specs.declared.site.Site.{Site}
+use Rattle.jl_config.specs.declared.candidate.Candidate.{Candidate}
 use Rattle.jl_config.specs.Lineages.{is_reader, is_read_in, is_named, is_in}
 use Rattle.jl_config.specs.Located.{find_read, is_numbered}
-use Rattle.jl_config.specs.Places.{place_of_site}
+use Rattle.jl_config.specs.Places.{place_of_candidate}
 use Rattle.jl_config.specs.Tables.{first_where, places_where, first_of_places}
 use Rattle.jl_config.proofs.Scenes.{first_own}
 use Rattle.std.proofs.Math.Bool.{and-false}
@@ -107,5 +107,5 @@ first_reads config reader name (r ∷ rs) =
 pub read_found : (config : ConfigId) (reader name : List ℕ) (rs : List (ConfigId × Read)) (ps : List ℕ) → ps ≡ places_where (is_reader reader) 0 rs → read_of rs (first_of_places (is_read_in config name) rs ps) ≡ find_read config reader name rs
 read_found config reader name rs ps e = ap (read_of rs) (ap (first_of_places (is_read_in config name) rs) e ∙ first_of_all (is_reader reader) (is_read_in config name) rs) ∙ sym (first_reads config reader name rs)
 
-pub site_found : (config : ConfigId) (name : List ℕ) (ss : List Site) (ps : List ℕ) → ps ≡ places_where (is_named name) 0 ss → first_of_places (is_in config) ss ps ≡ place_of_site config name ss
-site_found config name ss ps e = ap (first_of_places (is_in config) ss) e ∙ first_of_all (is_named name) (is_in config) ss ∙ sym (first_own config name ss)
+pub candidate_found : (config : ConfigId) (name : List ℕ) (ss : List Candidate) (ps : List ℕ) → ps ≡ places_where (is_named name) 0 ss → first_of_places (is_in config) ss ps ≡ place_of_candidate config name ss
+candidate_found config name ss ps e = ap (first_of_places (is_in config) ss) e ∙ first_of_all (is_named name) (is_in config) ss ∙ sym (first_own config name ss)

@@ -2,7 +2,7 @@
 use Rattle.std.proofs.Common.{◌≡◌, ℕ, List, [], ◌∷◌, Some, None, Bool, true, false, refl, codes}
 use Rattle.jl_prim.specs.declared.declaration.Requires.{Requires}
 use Rattle.jl_prim.specs.declared.declaration.Observed.{Observed}
-use Rattle.jl_config.specs.declared.site.Site.{Site}
+use Rattle.jl_config.specs.declared.candidate.Candidate.{Candidate}
 use Rattle.jl_config.specs.Located.{Scene}
 use Rattle.jl_config.specs.ReadRows.{meant_place, read_rows, read_starts, read_between, marked_place, placed}
 
@@ -15,22 +15,22 @@ observed name required = record {
   place = [];
 }
 
-abbrev site : ℕ → List ℕ → List Requires → Site
-site config name required = record { config = record { 0 = config }; observed = observed name required }
+abbrev candidate : ℕ → List ℕ → List Requires → Candidate
+candidate config name required = record { config = record { 0 = config }; observed = observed name required }
 
-abbrev a : Site
-a = site 2 (codes "a") (needs (codes "b") false ∷ needs (codes "d") true ∷ needs (codes "x") true ∷ [])
+abbrev a : Candidate
+a = candidate 2 (codes "a") (needs (codes "b") false ∷ needs (codes "d") true ∷ needs (codes "x") true ∷ [])
 
-abbrev b : Site
-b = site 2 (codes "b") (needs (codes "e") true ∷ needs (codes "a") false ∷ [])
+abbrev b : Candidate
+b = candidate 2 (codes "b") (needs (codes "e") true ∷ needs (codes "a") false ∷ [])
 
-abbrev e : Site
-e = site 1 (codes "e") (needs (codes "f") true ∷ needs (codes "b") true ∷ [])
+abbrev e : Candidate
+e = candidate 1 (codes "e") (needs (codes "f") true ∷ needs (codes "b") true ∷ [])
 
 abbrev scene : Scene
 scene = record {
   id = record { 0 = 2 };
-  sites = a ∷ b ∷ site 2 (codes "d") [] ∷ e ∷ site 1 (codes "f") [] ∷ site 2 (codes "f") [] ∷ [];
+  candidates = a ∷ b ∷ candidate 2 (codes "d") [] ∷ e ∷ candidate 1 (codes "f") [] ∷ candidate 2 (codes "f") [] ∷ [];
   reads = (record { 0 = 1 }, record { reader = codes "e"; config = record { 0 = 1 }; name = codes "f" }) ∷ [];
   roots = codes "a" ∷ [];
   binds = false;

@@ -5,7 +5,7 @@ use Rattle.jl_prim.specs.declared.declaration.Requires.{Requires}
 use Rattle.jl_prim.specs.declared.declaration.Grant.{Grant}
 use Rattle.jl_prim.specs.declared.declaration.Provides.{Provides}
 use Rattle.jl_prim.specs.declared.declaration.Observed.{Observed}
-use Rattle.jl_config.specs.declared.site.Site.{Site}
+use Rattle.jl_config.specs.declared.candidate.Candidate.{Candidate}
 use Rattle.jl_config.specs.declared.fault.ResolveFault.TheVariants.{NotFound, Cycle, SameName}
 use Rattle.jl_config.specs.Configurations.{Configuration}
 use Rattle.jl_config.specs.Located.{Asked, Scene, scene_of, lineage, ancestors, located, own_meaning}
@@ -52,7 +52,7 @@ above = record {
 abbrev asked_with : List Observed → List Observed → Asked
 asked_with before after = record { known = above ∷ []; before = before; parents = record { 0 = 1 } ∷ []; after = after; roots = codes "x" ∷ []; binds = false }
 
-abbrev at : ℕ → Observed → Site
+abbrev at : ℕ → Observed → Candidate
 at config o = record { config = record { 0 = config }; observed = o }
 
 -- the parent and the empty configuration

@@ -14,10 +14,10 @@ use Rattle.jl_config.specs.declared.fault.ResolveFault.{ResolveFault}
 use Rattle.jl_config.specs.declared.fault.ResolveFault.TheVariants.{SameName}
 use Rattle.jl_config.specs.declared.readings.Reading.{Reading}
 use Rattle.jl_config.specs.declared.same_name.SharedName.{SharedName}
-use Rattle.jl_config.specs.declared.site.Site.{Site}
-use Rattle.jl_config.specs.Located.{Scene, site_name}
+use Rattle.jl_config.specs.declared.candidate.Candidate.{Candidate}
+use Rattle.jl_config.specs.Located.{Scene, candidate_name}
 use Rattle.jl_config.specs.Members.{Reads}
-use Rattle.jl_config.specs.Places.{place_of_site, IsLeastSome, SameNameFault}
+use Rattle.jl_config.specs.Places.{place_of_candidate, IsLeastSome, SameNameFault}
 use Rattle.jl_config.specs.ReadRows.{option_name, name_at, place_cmp, IsReadingOf, AreReadings}
 use Rattle.jl_config.specs.Collected.{Adds, Among, read_name, IsShared, same_name_fault}
 use Rattle.jl_config.specs.Refusals.{IsSameName, fault_cmp}
@@ -62,28 +62,28 @@ module _ {X : Type 0} (k : X → List ℕ) (second : X → X → Ordering) where
 
 -- ---- what a reading shares
 
-pub reader_name : (w : Scene) (r : Reading) (a : Site) → IsReadingOf w r a → name_at w r.reader ≡ site_name a
+pub reader_name : (w : Scene) (r : Reading) (a : Candidate) → IsReadingOf w r a → name_at w r.reader ≡ candidate_name a
 reader_name w r a h = ap option_name h.here
 
 -- a place of a reading, and the module there
-pub record ReadAt (w : Scene) (a : Site) (p : ℕ) : Type 0 where
-  pub site : Site
-  pub at : slice_get w.sites p ≡ Some site
-  pub read : Reads w a site
-  pub first : place_of_site site.config (site_name site) w.sites ≡ Some p
+pub record ReadAt (w : Scene) (a : Candidate) (p : ℕ) : Type 0 where
+  pub candidate : Candidate
+  pub at : slice_get w.candidates p ≡ Some candidate
+  pub read : Reads w a candidate
+  pub first : place_of_candidate candidate.config (candidate_name candidate) w.candidates ≡ Some p
 
-pub place_read : (w : Scene) (r : Reading) (a : Site) (p : ℕ) → IsReadingOf w r a → Contains r.read p → ReadAt w a p
+pub place_read : (w : Scene) (r : Reading) (a : Candidate) (p : ℕ) → IsReadingOf w r a → Contains r.read p → ReadAt w a p
 place_read w r a p h c =
-    let s = item_at w.sites p (All-contains (λ q. q < length w.sites) r.read p h.reads.read.within c) in
+    let s = item_at w.candidates p (All-contains (λ q. q < length w.candidates) r.read p h.reads.read.within c) in
     let o = h.reads.read.only p s.0 c s.1 in
-    record { site = s.0; at = s.1; read = o.0; first = o.1 }
+    record { candidate = s.0; at = s.1; read = o.0; first = o.1 }
 
-read_at : (w : Scene) (r : Reading) (a : Site) (i : ℕ) → IsReadingOf w r a → i < length r.read → ReadAt w a (get_or r.read i 0)
+read_at : (w : Scene) (r : Reading) (a : Candidate) (i : ℕ) → IsReadingOf w r a → i < length r.read → ReadAt w a (get_or r.read i 0)
 read_at w r a i h lt = place_read w r a (get_or r.read i 0) h (contains_at r.read i (get_or r.read i 0) (slice_get-get_or r.read i 0 lt))
 
-pub one_first : (w : Scene) (b c : Site) (p q : ℕ) → place_of_site b.config (site_name b) w.sites ≡ Some p → place_of_site c.config (site_name c) w.sites ≡ Some q → b.config ≡ c.config → site_name b ≡ site_name c → p ≡ q
+pub one_first : (w : Scene) (b c : Candidate) (p q : ℕ) → place_of_candidate b.config (candidate_name b) w.candidates ≡ Some p → place_of_candidate c.config (candidate_name c) w.candidates ≡ Some q → b.config ≡ c.config → candidate_name b ≡ candidate_name c → p ≡ q
 one_first w b c p q f g e n =
-    let h : Some p ≡ Some q = sym f ∙ ap (λ k. place_of_site k (site_name b) w.sites) e ∙ ap (λ k. place_of_site c.config k w.sites) n ∙ g in
+    let h : Some p ≡ Some q = sym f ∙ ap (λ k. place_of_candidate k (candidate_name b) w.candidates) e ∙ ap (λ k. place_of_candidate c.config k w.candidates) n ∙ g in
     cc
 
 -- no place is less than itself
@@ -93,7 +93,7 @@ not_before_itself w p l =
     let f : nat_cmp p p ≡ Less = sym e ∙ l in
     apart_from_total nat_cmp nat_cmp_total p p f f
 
-pub shared_sound : (w : Scene) (r : Reading) (a : Site) (c : SharedName) → IsReadingOf w r a → IsShared w r c → IsSameName w (c.reader, c.name)
+pub shared_sound : (w : Scene) (r : Reading) (a : Candidate) (c : SharedName) → IsReadingOf w r a → IsShared w r c → IsSameName w (c.reader, c.name)
 shared_sound w r a c h s =
     let i : ℕ = s.0 in
     let at = s.1 in
@@ -101,13 +101,13 @@ shared_sound w r a c h s =
     let within = at.within in
     let b = read_at w r a (i - 1) h (omega arith) in
     let d = read_at w r a i h within in
-    let named_b : site_name b.site ≡ c.name = sym (ap option_name b.at) ∙ at.same ∙ ap (λ (x : SharedName). x.name) (sym at.is) in
-    let named_d : site_name d.site ≡ c.name = sym (ap option_name d.at) ∙ ap (λ (x : SharedName). x.name) (sym at.is) in
-    let reader : site_name a ≡ c.reader = sym (reader_name w r a h) ∙ ap (λ (x : SharedName). x.reader) (sym at.is) in
+    let named_b : candidate_name b.candidate ≡ c.name = sym (ap option_name b.at) ∙ at.same ∙ ap (λ (x : SharedName). x.name) (sym at.is) in
+    let named_d : candidate_name d.candidate ≡ c.name = sym (ap option_name d.at) ∙ ap (λ (x : SharedName). x.name) (sym at.is) in
+    let reader : candidate_name a ≡ c.reader = sym (reader_name w r a h) ∙ ap (λ (x : SharedName). x.reader) (sym at.is) in
     let less : place_cmp w (get_or r.read (i - 1) 0) (get_or r.read i 0) ≡ Less = rising_at (place_cmp w) r.read h.reads.rise (i - 1) i 0 (omega arith) within in (
       a,
-      b.site,
-      d.site,
+      b.candidate,
+      d.candidate,
       h.member,
       reader,
       b.read,
@@ -115,12 +115,12 @@ shared_sound w r a c h s =
       named_b,
       named_d,
       λ e.
-          let same : get_or r.read (i - 1) 0 ≡ get_or r.read i 0 = one_first w b.site d.site (get_or r.read (i - 1) 0) (get_or r.read i 0) b.first d.first e (named_b ∙ sym named_d) in
+          let same : get_or r.read (i - 1) 0 ≡ get_or r.read i 0 = one_first w b.candidate d.candidate (get_or r.read (i - 1) 0) (get_or r.read i 0) b.first d.first e (named_b ∙ sym named_d) in
           not_before_itself w (get_or r.read i 0) (subst (λ p. place_cmp w p (get_or r.read i 0) ≡ Less) same less),
     )
 
 -- the place behind that of one of two of a name
-shared_after : (w : Scene) (r : Reading) (i j : ℕ) (reader name : List ℕ) (a : Site) → IsReadingOf w r a → i < j → j < length r.read → read_name w r i ≡ name → read_name w r j ≡ name → site_name a ≡ reader
+shared_after : (w : Scene) (r : Reading) (i j : ℕ) (reader name : List ℕ) (a : Candidate) → IsReadingOf w r a → i < j → j < length r.read → read_name w r i ≡ name → read_name w r j ≡ name → candidate_name a ≡ reader
     → IsShared w r (record { reader = reader; name = name })
 shared_after w r i j reader name a h lt within e f g =
     let twin : read_name w r i ≡ read_name w r (i + 1) = twin_after (name_at w) nat_cmp r.read h.reads.rise i j 0 lt within (e ∙ sym f) in
@@ -136,9 +136,9 @@ shared_after w r i j reader name a h lt within e f g =
 
 pub shared_complete : (w : Scene) (rs : List Reading) (reader name : List ℕ) → AreReadings w rs → IsSameName w (reader, name) → Among (IsShared w) rs (record { reader = reader; name = name })
 shared_complete w rs reader name right s =
-    let a : Site = s.0 in
-    let b : Site = s.1 in
-    let c : Site = s.2 in
+    let a : Candidate = s.0 in
+    let b : Candidate = s.1 in
+    let c : Candidate = s.2 in
     let r = right.all a s.3 in
     let p = r.2.reads.read.all b s.5 in
     let q = r.2.reads.read.all c s.6 in
@@ -153,9 +153,9 @@ shared_complete w rs reader name right s =
           (λ ge.
           let e : p.1.0 ≡ q.1.0 = omega (arith, le, ge) in
           let f : p.0 ≡ q.0 = sym (at_index r.0.read p.0 p.1) ∙ ap (λ k. get_or r.0.read k 0) e ∙ at_index r.0.read q.0 q.1 in
-          let g : Some b ≡ Some c = sym p.2 ∙ ap (slice_get w.sites) f ∙ q.2 in
+          let g : Some b ≡ Some c = sym p.2 ∙ ap (slice_get w.candidates) f ∙ q.2 in
           let same : b ≡ c = cc in
-          absurd (s.9 (ap (λ (v : Site). v.config) same)))
+          absurd (s.9 (ap (λ (v : Candidate). v.config) same)))
           (cases_lt q.1.0 p.1.0))
           (cases_lt p.1.0 q.1.0),
     )

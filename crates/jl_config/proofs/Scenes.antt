@@ -3,19 +3,19 @@ use Rattle.std.proofs.Common.{◌≡◌, ◌<◌, ◌+◌, ℕ, zero, suc, List,
 use Rattle.std.proofs.lemmas.Grind.{common_steps}
 use Rattle.std.proofs.lemmas.List.{append-nil, take_more}
 use Rattle.jl_prim.specs.declared.numbers.ConfigId.{ConfigId}
-use Rattle.jl_config.specs.declared.site.Site.{Site}
+use Rattle.jl_config.specs.declared.candidate.Candidate.{Candidate}
 use Rattle.jl_config.specs.declared.configuration.Read.{Read}
 use Rattle.jl_config.specs.Configurations.{Configuration}
-use Rattle.jl_config.specs.Located.{site_name, is_numbered, lineage, configuration_of, empty_configuration, sites_of}
-use Rattle.jl_config.specs.Lineages.{all_sites, all_reads, reads_with, is_named}
-use Rattle.jl_config.specs.Places.{place_named, place_of_site}
+use Rattle.jl_config.specs.Located.{candidate_name, is_numbered, lineage, configuration_of, empty_configuration, candidates_of}
+use Rattle.jl_config.specs.Lineages.{all_candidates, all_reads, reads_with, is_named}
+use Rattle.jl_config.specs.Places.{place_named, place_of_candidate}
 use Rattle.jl_config.specs.Tables.{first_where, or_at}
 use Rattle.jl_logic.specs.Order.{is_text}
 use Rattle.jl_prim.specs.declared.declaration.Observed.{Observed}
 
-pub first_named : (name : List ℕ) (ss : List Site) → place_named name ss ≡ first_where (is_named name) ss
+pub first_named : (name : List ℕ) (ss : List Candidate) → place_named name ss ≡ first_where (is_named name) ss
 first_named name [] = refl
-first_named name (s ∷ ss) = ap (λ (o : Option ℕ). cond (is_text (site_name s) name) (Some 0) (option_map (λ p. p + 1) o)) (first_named name ss)
+first_named name (s ∷ ss) = ap (λ (o : Option ℕ). cond (is_text (candidate_name s) name) (Some 0) (option_map (λ p. p + 1) o)) (first_named name ss)
 
 or_at_next : (o : Option ℕ) (b : Bool) (n : ℕ) → option_map (λ p. p + 1) (or_at o b n) ≡ or_at (option_map (λ p. p + 1) o) b (suc n)
 or_at_next (Some p) b n = refl
@@ -34,20 +34,20 @@ module _ {X : Type 0} (f : X → Bool) where
 
 -- ---- the first of a configuration and a name
 
-abbrev pub own_test : ConfigId → List ℕ → Site → Bool
-own_test config name s = is_numbered s.config config && is_text (site_name s) name
+abbrev pub own_test : ConfigId → List ℕ → Candidate → Bool
+own_test config name s = is_numbered s.config config && is_text (candidate_name s) name
 
-pub first_own : (config : ConfigId) (name : List ℕ) (ss : List Site) → place_of_site config name ss ≡ first_where (own_test config name) ss
+pub first_own : (config : ConfigId) (name : List ℕ) (ss : List Candidate) → place_of_candidate config name ss ≡ first_where (own_test config name) ss
 first_own config name [] = refl
 first_own config name (s ∷ ss) = ap (λ (o : Option ℕ). cond (own_test config name s) (Some 0) (option_map (λ p. p + 1) o)) (first_own config name ss)
 
 -- one more module, for the first places of a name
-pub first_of_more : (ss : List Site) (i : ℕ) (s : Site) (name : List ℕ) (old new : Option ℕ) → i < length ss → s ≡ get_or ss i s
-    → old ≡ place_named name (take i ss) → new ≡ or_at old (is_text (site_name s) name) i → new ≡ place_named name (take (i + 1) ss)
+pub first_of_more : (ss : List Candidate) (i : ℕ) (s : Candidate) (name : List ℕ) (old new : Option ℕ) → i < length ss → s ≡ get_or ss i s
+    → old ≡ place_named name (take i ss) → new ≡ or_at old (is_text (candidate_name s) name) i → new ≡ place_named name (take (i + 1) ss)
 first_of_more ss i s name old new lt is e f =
-    let more : take (i + 1) ss ≡ take i ss ++ s ∷ [] = take_more ss i s lt ∙ ap (λ (w : Site). take i ss ++ w ∷ []) (sym is) in
+    let more : take (i + 1) ss ≡ take i ss ++ s ∷ [] = take_more ss i s lt ∙ ap (λ (w : Candidate). take i ss ++ w ∷ []) (sym is) in
     let long : length (take i ss) ≡ i = grind (arith, common_steps) in
-    f ∙ ap (λ (o : Option ℕ). or_at o (is_text (site_name s) name) i) (e ∙ first_named name (take i ss)) ∙ ap (λ (n : ℕ). or_at (first_where (is_named name) (take i ss)) (is_text (site_name s) name) n) (sym long)
+    f ∙ ap (λ (o : Option ℕ). or_at o (is_text (candidate_name s) name) i) (e ∙ first_named name (take i ss)) ∙ ap (λ (n : ℕ). or_at (first_where (is_named name) (take i ss)) (is_text (candidate_name s) name) n) (sym long)
     ∙ sym (first_pushed (is_named name) (take i ss) s) ∙ sym (first_named name (take i ss ++ s ∷ [])) ∙ ap (place_named name) (sym more)
 
 -- ---- ancestors
@@ -71,13 +71,13 @@ lineage_more (suc n) m known (q ∷ ps) p g e at is =
     let k : n ≡ m = omega arith in
     ap (λ c. configuration_of known c ∷ lineage n known (configuration_of known c).parents) same ∙ ap (λ (k : ℕ). configuration_of known p ∷ lineage k known (configuration_of known p).parents) k ∙ ap (λ (h : Configuration). h ∷ lineage m known h.parents) (sym is)
 
-pub lineage_empty : (n : ℕ) (known : List Configuration) (ps : List ConfigId) (p : ConfigId) → 0 < n → slice_get ps 0 ≡ Some p → configuration_of known p ≡ empty_configuration → (all_sites (lineage n known ps) ≡ []) × (all_reads (lineage n known ps) ≡ [])
+pub lineage_empty : (n : ℕ) (known : List Configuration) (ps : List ConfigId) (p : ConfigId) → 0 < n → slice_get ps 0 ≡ Some p → configuration_of known p ≡ empty_configuration → (all_candidates (lineage n known ps) ≡ []) × (all_reads (lineage n known ps) ≡ [])
 unfolding lineage
 lineage_empty zero known ps p lt at is = absurd (omega arith)
 lineage_empty (suc n) known ps p lt at is =
     let m : lineage (suc n) known ps ≡ empty_configuration ∷ lineage n known [] = lineage_more (suc n) n known ps p empty_configuration (omega arith) at (sym is) in
     let e : lineage (suc n) known ps ≡ empty_configuration ∷ [] = m ∙ ap (λ l. empty_configuration ∷ l) (no_lineage n known) in
-    (ap all_sites e, ap all_reads e)
+    (ap all_candidates e, ap all_reads e)
 
 pub lineage_none : (n : ℕ) (known : List Configuration) (ps : List ConfigId) → slice_get ps 0 ≡ None → lineage n known ps ≡ []
 lineage_none n known [] e = no_lineage n known
@@ -95,10 +95,10 @@ module _ (known : List Configuration) (next rest : List ConfigId) (left m : ℕ)
   goes_up : lineage left known next ≡ g ∷ lineage m known rest
   goes_up = lineage_more left m known next p g one at is ∙ ap (λ (r : List ConfigId). g ∷ lineage m known r) (sym up)
 
-  pub sites_step : (xs new zs : List Site) (id : ConfigId) (os : List Observed) → xs ++ all_sites (lineage left known next) ≡ zs → new ≡ xs ++ sites_of id os → id ≡ g.id → os ≡ g.modules
-      → new ++ all_sites (lineage m known rest) ≡ zs
-  sites_step xs new zs id os e f i o =
-      part_moves xs (sites_of g.id g.modules) (all_sites (lineage m known rest)) (all_sites (lineage left known next)) zs new e (ap all_sites goes_up) (f ∙ ap (λ (c : ConfigId). xs ++ sites_of c os) i ∙ ap (λ (l : List Observed). xs ++ sites_of g.id l) o)
+  pub candidates_step : (xs new zs : List Candidate) (id : ConfigId) (os : List Observed) → xs ++ all_candidates (lineage left known next) ≡ zs → new ≡ xs ++ candidates_of id os → id ≡ g.id → os ≡ g.modules
+      → new ++ all_candidates (lineage m known rest) ≡ zs
+  candidates_step xs new zs id os e f i o =
+      part_moves xs (candidates_of g.id g.modules) (all_candidates (lineage m known rest)) (all_candidates (lineage left known next)) zs new e (ap all_candidates goes_up) (f ∙ ap (λ (c : ConfigId). xs ++ candidates_of c os) i ∙ ap (λ (l : List Observed). xs ++ candidates_of g.id l) o)
 
   pub reads_step : (xs new zs : List (ConfigId × Read)) (id : ConfigId) (rs : List Read) → xs ++ all_reads (lineage left known next) ≡ zs → new ≡ xs ++ reads_with id rs → id ≡ g.id → rs ≡ g.reads
       → new ++ all_reads (lineage m known rest) ≡ zs

@@ -14,8 +14,8 @@ use Rattle.jl_config.specs.declared.fault.ResolveFault.TheVariants.{SameName, Se
 use Rattle.jl_config.specs.declared.imports.Exported.{Exported}
 use Rattle.jl_config.specs.declared.imports.Imports.{Imports}
 use Rattle.jl_config.specs.declared.services.UnseenService.{UnseenService}
-use Rattle.jl_config.specs.declared.site.Site.{Site}
-use Rattle.jl_config.specs.Located.{Scene, site_name, is_numbered}
+use Rattle.jl_config.specs.declared.candidate.Candidate.{Candidate}
+use Rattle.jl_config.specs.Located.{Scene, candidate_name, is_numbered}
 use Rattle.jl_config.specs.Members.{Reads, Uses, IsProvidedBy}
 use Rattle.jl_config.specs.Places.{IsLeastSome, SameNameFault, ServiceFault}
 use Rattle.jl_config.specs.Refusals.{Exports, Sees, IsServicePackage, fault_cmp}
@@ -34,14 +34,14 @@ searched_right p es r up range h = key_searched exported_cmp (λ (e : Exported).
 
 -- ---- what a module has and exports to itself
 
-pub own_right : (s : Site) (first whole sorted : List (List ℕ)) → first ≡ s.observed.declaration.packages → Adds first whole (Among (IsOwnExport s) s.observed.declaration.exports) → AreSorted whole sorted → AreOwn s sorted
+pub own_right : (s : Candidate) (first whole sorted : List (List ℕ)) → first ≡ s.observed.declaration.packages → Adds first whole (Among (IsOwnExport s) s.observed.declaration.exports) → AreSorted whole sorted → AreOwn s sorted
 own_right s first whole sorted e adds order = record {
   rise = order.rise;
   only = λ p c. ⊎_elim (λ k. inl (subst (λ l. Contains l p) e k)) (λ h. let q = h.2 in inr (h.0, h.1, q.0, q.1)) (adds.only p (order.only p c));
   all = λ p h. order.all p (⊎_elim (λ k. adds.keeps p (subst (λ l. Contains l p) (sym e) k)) (λ g. adds.all p (g.0, g.1, (g.2, g.3))) h);
 }
 
-module _ (s : Site) (own : List (List ℕ)) (es : List Exported) (right : AreOwn s own) where
+module _ (s : Candidate) (own : List (List ℕ)) (es : List Exported) (right : AreOwn s own) where
   pub seen_in : (p : List ℕ) → Contains own p ⊎ IsImported es p → IsSeen s es p
   seen_in p h = ⊎_elim (λ c. ⊎_elim inl (λ g. inr (inl g)) (right.only p c)) (λ i. inr (inr i)) h
 
@@ -50,7 +50,7 @@ module _ (s : Site) (own : List (List ℕ)) (es : List Exported) (right : AreOwn
 
 -- ---- what a reader does not see
 
-module _ (w : Scene) (m : Imports) (s : Site) (at : slice_get w.sites m.reader ≡ Some s) where
+module _ (w : Scene) (m : Imports) (s : Candidate) (at : slice_get w.candidates m.reader ≡ Some s) where
   pub used_in : (c : UnseenService) → Among (IsUnseen s m.exported) s.observed.declaration.uses c → IsUnseenIn w m c
   used_in c h =
       let same : h.0 ≡ c.service = ap (λ (x : UnseenService). x.service) (sym h.2.1) in
@@ -63,19 +63,19 @@ module _ (w : Scene) (m : Imports) (s : Site) (at : slice_get w.sites m.reader �
 
   pub unseen_from : (c : UnseenService) → IsUnseenIn w m c → Among (IsUnseen s m.exported) s.observed.declaration.uses c ⊎ Among (IsUnseenProvided s m.exported) s.observed.declaration.provides c
   unseen_from c h =
-      let f : h.0 ≡ s = same_item h.0 s (slice_get w.sites m.reader) h.1 at in
+      let f : h.0 ≡ s = same_item h.0 s (slice_get w.candidates m.reader) h.1 at in
       let u : IsUnseen s m.exported c.service c = subst (λ v. IsUnseen v m.exported c.service c) f h.3 in
       ⊎_elim
-      (λ k. inl (c.service, subst (λ (v : Site). Uses v c.service) f k, u))
-      (λ k. let p : IsProvidedBy s c.service = subst (λ (v : Site). IsProvidedBy v c.service) f k in inr (p.0, p.1, subst (λ n. IsUnseen s m.exported n c) (sym p.2) u))
+      (λ k. inl (c.service, subst (λ (v : Candidate). Uses v c.service) f k, u))
+      (λ k. let p : IsProvidedBy s c.service = subst (λ (v : Candidate). IsProvidedBy v c.service) f k in inr (p.0, p.1, subst (λ n. IsUnseen s m.exported n c) (sym p.2) u))
       h.2
 
-module _ (w : Scene) (apart : (f : ResolveFault) → SameNameFault w f → ⊥) (m : Imports) (a : Site) (h : IsImportOf w m a) where
+module _ (w : Scene) (apart : (f : ResolveFault) → SameNameFault w f → ⊥) (m : Imports) (a : Candidate) (h : IsImportOf w m a) where
   -- one of the reader's name that it reads is the reader
-  own_only : (b : Site) → Reads w a b → site_name b ≡ site_name a → b ≡ a
+  own_only : (b : Candidate) → Reads w a b → candidate_name b ≡ candidate_name a → b ≡ a
   own_only b read named = ⊎_elim
       (λ t. h.own b read named (same_number b.config a.config t))
-      (λ f. absurd (apart (SameName (site_name a) (site_name a)) (a, a, b, h.member, refl, inl refl, read, refl, named, λ e. number_differs a.config b.config f e)))
+      (λ f. absurd (apart (SameName (candidate_name a) (candidate_name a)) (a, a, b, h.member, refl, inl refl, read, refl, named, λ e. number_differs a.config b.config f e)))
       (cases_Bool (is_numbered b.config a.config))
     where
       number_differs : (x y : ConfigId) → is_numbered y x ≡ false → x ≡ y → ⊥
@@ -83,28 +83,28 @@ module _ (w : Scene) (apart : (f : ResolveFault) → SameNameFault w f → ⊥) 
 
   seen_by : (p : List ℕ) → Sees w a p → IsSeen a m.exported p
   seen_by p s = ⊎_elim inl (λ g.
-      let b : Site = g.0 in
+      let b : Candidate = g.0 in
       ⊎_elim
       (λ t.
-      let same : b ≡ a = own_only b g.1.1 (text_is (site_name b) (site_name a) t) in
-      inr (inl (subst (λ (v : Site). Exports v p (site_name a)) same g.1.2)))
-      (λ f. inr (inr (record { «package» = p; exporter = site_name b }, h.all b p g.1.1 g.1.2 (text_differs (site_name b) (site_name a) f), refl)))
-      (cases_Bool (is_text (site_name b) (site_name a)))) s
+      let same : b ≡ a = own_only b g.1.1 (text_is (candidate_name b) (candidate_name a) t) in
+      inr (inl (subst (λ (v : Candidate). Exports v p (candidate_name a)) same g.1.2)))
+      (λ f. inr (inr (record { «package» = p; exporter = candidate_name b }, h.all b p g.1.1 g.1.2 (text_differs (candidate_name b) (candidate_name a) f), refl)))
+      (cases_Bool (is_text (candidate_name b) (candidate_name a)))) s
 
   sees_by : (p : List ℕ) → IsSeen a m.exported p → Sees w a p
   sees_by p s = ⊎_elim inl (λ g. ⊎_elim
       (λ own. inr (a, (h.member, inl refl, own)))
-      (λ i. let b = h.only i.0 i.1 in inr (b.0, (h.member, b.1, subst (λ q. Exports b.0 q (site_name a)) i.2 b.2.0)))
+      (λ i. let b = h.only i.0 i.1 in inr (b.0, (h.member, b.1, subst (λ q. Exports b.0 q (candidate_name a)) i.2 b.2.0)))
       g) s
 
   pub unseen_sound : (c : UnseenService) → IsUnseenIn w m c → IsServicePackage w (c.«module», c.service)
   unseen_sound c u =
-      let f : u.0 ≡ a = same_item u.0 a (slice_get w.sites m.reader) u.1 h.here in
+      let f : u.0 ≡ a = same_item u.0 a (slice_get w.candidates m.reader) u.1 h.here in
       let k : IsUnseen a m.exported c.service c = subst (λ v. IsUnseen v m.exported c.service c) f u.3 in
-      let named : site_name a ≡ c.«module» = ap (λ (x : UnseenService). x.«module») (sym k.1) in
-      (a, h.member, named, subst (λ (v : Site). Uses v c.service ⊎ IsProvidedBy v c.service) f u.2, λ s. k.0 (seen_by (package_of c.service) s))
+      let named : candidate_name a ≡ c.«module» = ap (λ (x : UnseenService). x.«module») (sym k.1) in
+      (a, h.member, named, subst (λ (v : Candidate). Uses v c.service ⊎ IsProvidedBy v c.service) f u.2, λ s. k.0 (seen_by (package_of c.service) s))
 
-  pub unseen_has : (name service : List ℕ) → site_name a ≡ name → Uses a service ⊎ IsProvidedBy a service → (Sees w a (package_of service) → ⊥) → IsUnseenIn w m (record { «module» = name; service = service })
+  pub unseen_has : (name service : List ℕ) → candidate_name a ≡ name → Uses a service ⊎ IsProvidedBy a service → (Sees w a (package_of service) → ⊥) → IsUnseenIn w m (record { «module» = name; service = service })
   unseen_has name service named u never = (a, h.here, u, (λ s. never (sees_by (package_of service) s), λ i. record { «module» = sym named i; service = service }))
 
 pub least_unseen : (w : Scene) → ((f : ResolveFault) → SameNameFault w f → ⊥) → (ms : List Imports) (found : List UnseenService) (cmp : UnseenService → UnseenService → Ordering) (o : Option UnseenService) → AreImports w ms

@@ -10,7 +10,7 @@ use Rattle.jl_config.specs.Configurations.{Configuration}
 use Rattle.jl_config.specs.Located.{Asked, Scene, scene_of}
 use Rattle.jl_config.specs.Orders.{module_cmp, read_cmp}
 use Rattle.jl_config.specs.Refusals.{Applies, fault_cmp}
-use Rattle.jl_config.specs.Resolves.{Resolves, AreModules, AreReads, IsConfigurationOf, new_site}
+use Rattle.jl_config.specs.Resolves.{Resolves, AreModules, AreReads, IsConfigurationOf, new_candidate}
 use Rattle.jl_config.proofs.FaultOrder.{fault_total, fault_exact, modules_apart, reads_apart}
 
 -- ---- what a refusal tells
@@ -26,7 +26,7 @@ told_by_least q f l = l
 -- ---- two answers
 
 same_modules : (q : Asked) (os ps : List Observed) → AreModules q os → AreModules q ps → os ≡ ps
-same_modules q os ps a b = same_rising module_cmp modules_apart os ps a.rise b.rise (λ o c. b.all (new_site q o) (a.only o c)) (λ o c. a.all (new_site q o) (b.only o c))
+same_modules q os ps a b = same_rising module_cmp modules_apart os ps a.rise b.rise (λ o c. b.all (new_candidate q o) (a.only o c)) (λ o c. a.all (new_candidate q o) (b.only o c))
 
 reads_into : (w : Scene) (rs ss : List Read) → AreReads w rs → AreReads w ss → (r : Read) → Contains rs r → Contains ss r
 reads_into w rs ss a b r c =

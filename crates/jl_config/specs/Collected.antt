@@ -5,7 +5,7 @@ use Rattle.jl_config.specs.declared.readings.Reading.{Reading}
 use Rattle.jl_config.specs.declared.same_name.SharedName.{SharedName}
 use Rattle.jl_config.specs.declared.fault.ResolveFault.{ResolveFault}
 use Rattle.jl_config.specs.declared.fault.ResolveFault.TheVariants.{SameName}
-use Rattle.jl_config.specs.declared.site.Site.{Site}
+use Rattle.jl_config.specs.declared.candidate.Candidate.{Candidate}
 use Rattle.jl_config.specs.Located.{Scene}
 use Rattle.jl_config.specs.ReadRows.{name_at, IsReadingOf}
 
@@ -21,7 +21,7 @@ Among {X} P xs y = (x : X) × Contains xs x × P x y
 
 -- it is a reading in sight
 abbrev pub IsReading : Scene → Reading → Type 0
-IsReading w r = (a : Site) × IsReadingOf w r a
+IsReading w r = (a : Candidate) × IsReadingOf w r a
 
 -- the name of the module that is read at place i of a reading
 abbrev pub read_name : Scene → Reading → ℕ → List ℕ

@@ -3,7 +3,7 @@ use Rattle.std.specs.Prelude.{◌≡◌, ℕ, List, [], ◌∷◌, map, Option, 
 use Rattle.std.specs.List.{filter_map}
 use Rattle.jl_prim.specs.declared.declaration.Requires.{Requires}
 use Rattle.jl_closure.specs.Reached.{IsReached}
-use Rattle.jl_config.specs.declared.site.Site.{Site}
+use Rattle.jl_config.specs.declared.candidate.Candidate.{Candidate}
 use Rattle.jl_config.specs.Located.{Scene}
 use Rattle.jl_config.specs.Places.{place_named}
 
@@ -14,15 +14,15 @@ kept_marked marks (Some p) = if slice_index_or marks p false then Some p else No
 
 -- the place of the member that an entry means
 abbrev pub edge_place : Scene → List Bool → Requires → Option ℕ
-edge_place w marks r = kept_marked marks (place_named r.name w.sites)
+edge_place w marks r = kept_marked marks (place_named r.name w.candidates)
 
 -- the places of the members that the entries of a module mean
-abbrev pub edge_row : Scene → List Bool → Site → List ℕ
+abbrev pub edge_row : Scene → List Bool → Candidate → List ℕ
 edge_row w marks s = filter_map (edge_place w marks) s.observed.declaration.required
 
 -- for each place those of the members that its entries mean
 abbrev pub edge_rows : Scene → List Bool → List (List ℕ)
-edge_rows w marks = map (edge_row w marks) w.sites
+edge_rows w marks = map (edge_row w marks) w.candidates
 
 -- the row of a place leads back to it
 abbrev pub LeadsBack : List (List ℕ) → ℕ → Type 0

@@ -2,19 +2,19 @@
 use Rattle.std.specs.Prelude.{ℕ, List, map, Bool, ◌&&◌}
 use Rattle.std.specs.List.{flat_map}
 use Rattle.jl_prim.specs.declared.numbers.ConfigId.{ConfigId}
-use Rattle.jl_config.specs.declared.site.Site.{Site}
+use Rattle.jl_config.specs.declared.candidate.Candidate.{Candidate}
 use Rattle.jl_config.specs.declared.configuration.Read.{Read}
 use Rattle.jl_config.specs.Configurations.{Configuration}
 use Rattle.jl_logic.specs.Order.{is_text}
-use Rattle.jl_config.specs.Located.{sites_of, site_name, is_numbered}
+use Rattle.jl_config.specs.Located.{candidates_of, candidate_name, is_numbered}
 
 -- the reads of a configuration, with its number
 abbrev pub reads_with : ConfigId → List Read → List (ConfigId × Read)
 reads_with config rs = map (λ r. (config, r)) rs
 
 -- the modules of configurations
-abbrev pub all_sites : List Configuration → List Site
-all_sites gs = flat_map (λ (g : Configuration). sites_of g.id g.modules) gs
+abbrev pub all_candidates : List Configuration → List Candidate
+all_candidates gs = flat_map (λ (g : Configuration). candidates_of g.id g.modules) gs
 
 -- the reads of configurations
 abbrev pub all_reads : List Configuration → List (ConfigId × Read)
@@ -31,9 +31,9 @@ abbrev pub is_read_in : ConfigId → List ℕ → ConfigId × Read → Bool
 is_read_in config name r = is_numbered r.0 config && is_text r.1.name name
 
 -- the module has this name
-abbrev pub is_named : List ℕ → Site → Bool
-is_named name s = is_text (site_name s) name
+abbrev pub is_named : List ℕ → Candidate → Bool
+is_named name s = is_text (candidate_name s) name
 
 -- the module is of this configuration
-abbrev pub is_in : ConfigId → Site → Bool
+abbrev pub is_in : ConfigId → Candidate → Bool
 is_in config s = is_numbered s.config config

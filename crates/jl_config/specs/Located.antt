@@ -4,7 +4,7 @@ use Rattle.std.specs.List.{flat_map}
 use Rattle.jl_prim.specs.declared.numbers.ConfigId.{ConfigId}
 use Rattle.jl_prim.specs.declared.declaration.Observed.{Observed}
 use Rattle.jl_logic.specs.Order.{is_text}
-use Rattle.jl_config.specs.declared.site.Site.{Site}
+use Rattle.jl_config.specs.declared.candidate.Candidate.{Candidate}
 use Rattle.jl_config.specs.declared.configuration.Read.{Read}
 use Rattle.jl_config.specs.Configurations.{Configuration}
 
@@ -46,20 +46,20 @@ ancestors q = lineage (length q.known + 1) q.known q.parents
 -- Modules, each with the number of the configuration that has it, in the order in which a name is looked for; and what those of ancestors read.
 pub record Scene : Type 0 where
   pub id : ConfigId
-  pub sites : List Site
+  pub candidates : List Candidate
   pub reads : List (ConfigId × Read)
   pub roots : List (List ℕ)
   pub binds : Bool
 
 -- modules of a configuration
-abbrev pub sites_of : ConfigId → List Observed → List Site
-sites_of id os = map (λ o. record { config = id; observed = o }) os
+abbrev pub candidates_of : ConfigId → List Observed → List Candidate
+candidates_of id os = map (λ o. record { config = id; observed = o }) os
 
 -- the before finder, the ancestors from the nearest on, the after finder
 abbrev pub scene_of : Asked → Scene
 scene_of q = record {
   id = id_of q;
-  sites = sites_of (id_of q) q.before ++ flat_map (λ (g : Configuration). sites_of g.id g.modules) (ancestors q) ++ sites_of (id_of q) q.after;
+  candidates = candidates_of (id_of q) q.before ++ flat_map (λ (g : Configuration). candidates_of g.id g.modules) (ancestors q) ++ candidates_of (id_of q) q.after;
   reads = flat_map (λ (g : Configuration). map (λ r. (g.id, r)) g.reads) (ancestors q);
   roots = q.roots;
   binds = q.binds;
@@ -72,32 +72,32 @@ abbrev pub name_of : Observed → List ℕ
 name_of o = o.declaration.name
 
 -- the name of a module in sight
-abbrev pub site_name : Site → List ℕ
-site_name s = name_of s.observed
+abbrev pub candidate_name : Candidate → List ℕ
+candidate_name s = name_of s.observed
 
 -- the first of a name
-abbrev pub find_named : List ℕ → List Site → Option Site
+abbrev pub find_named : List ℕ → List Candidate → Option Candidate
 find_named name [] = None
-find_named name (s ∷ ss) = if is_text (site_name s) name then Some s else find_named name ss
+find_named name (s ∷ ss) = if is_text (candidate_name s) name then Some s else find_named name ss
 
 -- where a name is located
-abbrev pub located : Scene → List ℕ → Option Site
-located w name = find_named name w.sites
+abbrev pub located : Scene → List ℕ → Option Candidate
+located w name = find_named name w.candidates
 
 -- the same configuration
 abbrev pub is_numbered : ConfigId → ConfigId → Bool
 is_numbered a b = a.0 == b.0
 
 -- The module is one that a finder observes. Others are an ancestor's.
-abbrev pub is_here : Scene → Site → Bool
+abbrev pub is_here : Scene → Candidate → Bool
 is_here w s = is_numbered s.config w.id
 
 -- ---- what an ancestor's module reads
 
 -- the first of a configuration and a name
-abbrev pub find_site : ConfigId → List ℕ → List Site → Option Site
-find_site config name [] = None
-find_site config name (s ∷ ss) = if is_numbered s.config config && is_text (site_name s) name then Some s else find_site config name ss
+abbrev pub find_candidate : ConfigId → List ℕ → List Candidate → Option Candidate
+find_candidate config name [] = None
+find_candidate config name (s ∷ ss) = if is_numbered s.config config && is_text (candidate_name s) name then Some s else find_candidate config name ss
 
 -- the first entry of a configuration by which a reader reads a name
 abbrev pub find_read : ConfigId → List ℕ → List ℕ → List (ConfigId × Read) → Option Read
@@ -106,10 +106,10 @@ find_read config reader name (r ∷ rs) =
     if is_numbered r.0 config && (is_text r.1.reader reader && is_text r.1.name name) then Some r.1 else find_read config reader name rs
 
 -- the module that an entry reads
-abbrev pub read_site : List Site → Option Read → Option Site
-read_site ss None = None
-read_site ss (Some r) = find_site r.config r.name ss
+abbrev pub read_candidate : List Candidate → Option Read → Option Candidate
+read_candidate ss None = None
+read_candidate ss (Some r) = find_candidate r.config r.name ss
 
 -- the module that a name means to an ancestor's module: the one that its own configuration has it read by that name
-abbrev pub own_meaning : Scene → Site → List ℕ → Option Site
-own_meaning w s name = read_site w.sites (find_read s.config (site_name s) name w.reads)
+abbrev pub own_meaning : Scene → Candidate → List ℕ → Option Candidate
+own_meaning w s name = read_candidate w.candidates (find_read s.config (candidate_name s) name w.reads)

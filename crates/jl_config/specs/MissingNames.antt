@@ -7,8 +7,8 @@ use Rattle.std.specs.declared.cmp.Ordering.{Ordering}
 use Rattle.jl_prim.specs.declared.declaration.Requires.{Requires}
 use Rattle.jl_logic.specs.Order.{name_cmp, optional_cmp}
 use Rattle.jl_config.specs.declared.missing.Missing.{Missing}
-use Rattle.jl_config.specs.declared.site.Site.{Site}
-use Rattle.jl_config.specs.Located.{Scene, site_name}
+use Rattle.jl_config.specs.declared.candidate.Candidate.{Candidate}
+use Rattle.jl_config.specs.Located.{Scene, candidate_name}
 use Rattle.jl_config.specs.Members.{is_followed}
 use Rattle.jl_config.specs.Places.{place_named}
 
@@ -33,23 +33,23 @@ least_from least (m ∷ ms) = least_from (lesser least (Some m)) ms
 
 -- a root that is not located
 abbrev pub root_missing : Scene → List ℕ → Option (List ℕ × Option (List ℕ))
-root_missing w name = if is_some (place_named name w.sites) then None else Some (name, None)
+root_missing w name = if is_some (place_named name w.candidates) then None else Some (name, None)
 
 -- what an entry that is followed needs and is not located
 abbrev pub entry_missing : Scene → List ℕ → Requires → Option (List ℕ × Option (List ℕ))
-entry_missing w by r = if not (is_followed r) || is_some (place_named r.name w.sites) then None else Some (r.name, Some by)
+entry_missing w by r = if not (is_followed r) || is_some (place_named r.name w.candidates) then None else Some (r.name, Some by)
 
 -- what entries of a module follow and is not located
 abbrev pub missing_entries : Scene → List ℕ → List Requires → List (List ℕ × Option (List ℕ))
 missing_entries w by rs = filter_map (entry_missing w by) rs
 
 -- what a module needs and is not located
-abbrev pub missing_of : Scene → Site → List (List ℕ × Option (List ℕ))
-missing_of w s = missing_entries w (site_name s) s.observed.declaration.required
+abbrev pub missing_of : Scene → Candidate → List (List ℕ × Option (List ℕ))
+missing_of w s = missing_entries w (candidate_name s) s.observed.declaration.required
 
 -- the same of the module at a place
 abbrev pub missing_at : Scene → ℕ → List (List ℕ × Option (List ℕ))
-missing_at w p = option_map_or (missing_of w) (slice_get w.sites p) []
+missing_at w p = option_map_or (missing_of w) (slice_get w.candidates p) []
 
 -- all that is missing, where the set has the modules at ps
 abbrev pub all_missing : Scene → List ℕ → List (List ℕ × Option (List ℕ))

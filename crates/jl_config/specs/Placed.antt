@@ -4,9 +4,9 @@ use Rattle.std.specs.List.Sorted.{IsPartitionPoint}
 use Rattle.std.specs.declared.cmp.Ordering.TheVariants.{Less, Greater}
 use Rattle.std.specs.declared.cmp.Ordering.{Ordering}
 use Rattle.jl_logic.specs.Order.{is_text, name_cmp}
-use Rattle.jl_config.specs.declared.site.Site.{Site}
+use Rattle.jl_config.specs.declared.candidate.Candidate.{Candidate}
 use Rattle.jl_config.specs.declared.placed.Placed.{Placed}
-use Rattle.jl_config.specs.Located.{site_name}
+use Rattle.jl_config.specs.Located.{candidate_name}
 
 -- by the names
 abbrev pub placed_cmp : Placed → Placed → Ordering
@@ -23,7 +23,7 @@ IsSought name xs (Ok p) = (place : ℕ) × (place_in name xs ≡ Some place)
 IsSought name xs (Err p) = (p ≤ length xs) × IsPartitionPoint (λ x. name_cmp x.name name ≡ Less) (λ x. name_cmp x.name name ≡ Greater) xs p
 
 -- the first marked place of a name, where the list begins at place p
-abbrev pub marked_place : List ℕ → ℕ → List Site → List Bool → Option ℕ
+abbrev pub marked_place : List ℕ → ℕ → List Candidate → List Bool → Option ℕ
 marked_place name p [] marks = None
 marked_place name p (s ∷ ss) [] = None
-marked_place name p (s ∷ ss) (mark ∷ marks) = if mark && is_text (site_name s) name then Some p else marked_place name (p + 1) ss marks
+marked_place name p (s ∷ ss) (mark ∷ marks) = if mark && is_text (candidate_name s) name then Some p else marked_place name (p + 1) ss marks

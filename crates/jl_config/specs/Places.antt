@@ -6,62 +6,62 @@ use Rattle.std.specs.declared.cmp.Ordering.{Ordering}
 use Rattle.jl_prim.specs.declared.numbers.ConfigId.{ConfigId}
 use Rattle.jl_logic.specs.Order.{is_text, RisesBy, IsLeast}
 use Rattle.jl_config.specs.declared.configuration.Read.{Read}
-use Rattle.jl_config.specs.declared.site.Site.{Site}
+use Rattle.jl_config.specs.declared.candidate.Candidate.{Candidate}
 use Rattle.jl_config.specs.declared.fault.ResolveFault.{ResolveFault}
 use Rattle.jl_config.specs.declared.fault.ResolveFault.TheVariants.{NotFound, Cycle, SameName, SamePackage, OwnPackage, ServicePackage}
-use Rattle.jl_config.specs.Located.{Scene, site_name, is_numbered, find_read}
+use Rattle.jl_config.specs.Located.{Scene, candidate_name, is_numbered, find_read}
 use Rattle.jl_config.specs.Members.{IsMember, Reads}
-use Rattle.jl_config.specs.Orders.{site_cmp}
+use Rattle.jl_config.specs.Orders.{candidate_cmp}
 use Rattle.jl_config.specs.Refusals.{IsMissing, IsOnCycle, IsSameName, IsSamePackage, IsOwnPackage, IsServicePackage}
 
 -- the place of the first of a name
-abbrev pub place_named : List ℕ → List Site → Option ℕ
+abbrev pub place_named : List ℕ → List Candidate → Option ℕ
 place_named name [] = None
-place_named name (s ∷ ss) = if is_text (site_name s) name then Some 0 else option_map (λ p. p + 1) (place_named name ss)
+place_named name (s ∷ ss) = if is_text (candidate_name s) name then Some 0 else option_map (λ p. p + 1) (place_named name ss)
 
 -- the place of the first of a configuration and a name
-abbrev pub place_of_site : ConfigId → List ℕ → List Site → Option ℕ
-place_of_site config name [] = None
-place_of_site config name (s ∷ ss) =
-    if is_numbered s.config config && is_text (site_name s) name then Some 0 else option_map (λ p. p + 1) (place_of_site config name ss)
+abbrev pub place_of_candidate : ConfigId → List ℕ → List Candidate → Option ℕ
+place_of_candidate config name [] = None
+place_of_candidate config name (s ∷ ss) =
+    if is_numbered s.config config && is_text (candidate_name s) name then Some 0 else option_map (λ p. p + 1) (place_of_candidate config name ss)
 
 -- the place of the module that an entry reads
-abbrev pub read_place : List Site → Option Read → Option ℕ
+abbrev pub read_place : List Candidate → Option Read → Option ℕ
 read_place ss None = None
-read_place ss (Some r) = place_of_site r.config r.name ss
+read_place ss (Some r) = place_of_candidate r.config r.name ss
 
 -- the place of what a name means to an ancestor's module
-abbrev pub own_place : Scene → Site → List ℕ → Option ℕ
-own_place w s name = read_place w.sites (find_read s.config (site_name s) name w.reads)
+abbrev pub own_place : Scene → Candidate → List ℕ → Option ℕ
+own_place w s name = read_place w.candidates (find_read s.config (candidate_name s) name w.reads)
 
 -- the modules at places
-abbrev pub sites_at : Scene → List ℕ → List Site
-sites_at w ps = filter_map (slice_get w.sites) ps
+abbrev pub candidates_at : Scene → List ℕ → List Candidate
+candidates_at w ps = filter_map (slice_get w.candidates) ps
 
 -- ---- members
 
 -- one mark for each place, set where a module of the set is located by its name
 pub record AreMarks (w : Scene) (marks : List Bool) : Type 0 where
-  pub one_each : length marks ≡ length w.sites
-  pub only : (p : ℕ) (s : Site) → slice_get w.sites p ≡ Some s → slice_get marks p ≡ Some true
-      → IsMember w s × (place_named (site_name s) w.sites ≡ Some p)
-  pub all : (p : ℕ) (s : Site) → slice_get w.sites p ≡ Some s → IsMember w s → place_named (site_name s) w.sites ≡ Some p
+  pub one_each : length marks ≡ length w.candidates
+  pub only : (p : ℕ) (s : Candidate) → slice_get w.candidates p ≡ Some s → slice_get marks p ≡ Some true
+      → IsMember w s × (place_named (candidate_name s) w.candidates ≡ Some p)
+  pub all : (p : ℕ) (s : Candidate) → slice_get w.candidates p ≡ Some s → IsMember w s → place_named (candidate_name s) w.candidates ≡ Some p
       → slice_get marks p ≡ Some true
 
 -- the places of the modules of the set, in name order
 pub record AreMembers (w : Scene) (ps : List ℕ) : Type 0 where
-  pub within : All (λ p. p < length w.sites) ps
-  pub rise : RisesBy site_cmp (sites_at w ps)
-  pub only : (p : ℕ) (s : Site) → Contains ps p → slice_get w.sites p ≡ Some s → IsMember w s × (place_named (site_name s) w.sites ≡ Some p)
-  pub all : (s : Site) → IsMember w s → (p : ℕ) × Contains ps p × (slice_get w.sites p ≡ Some s)
+  pub within : All (λ p. p < length w.candidates) ps
+  pub rise : RisesBy candidate_cmp (candidates_at w ps)
+  pub only : (p : ℕ) (s : Candidate) → Contains ps p → slice_get w.candidates p ≡ Some s → IsMember w s × (place_named (candidate_name s) w.candidates ≡ Some p)
+  pub all : (s : Candidate) → IsMember w s → (p : ℕ) × Contains ps p × (slice_get w.candidates p ≡ Some s)
 
 -- ---- reads
 
 -- places of what a module reads
-pub record AreReadBy (w : Scene) (a : Site) (ps : List ℕ) : Type 0 where
-  pub within : All (λ p. p < length w.sites) ps
-  pub only : (p : ℕ) (s : Site) → Contains ps p → slice_get w.sites p ≡ Some s → Reads w a s × (place_of_site s.config (site_name s) w.sites ≡ Some p)
-  pub all : (b : Site) → Reads w a b → (p : ℕ) × Contains ps p × (slice_get w.sites p ≡ Some b)
+pub record AreReadBy (w : Scene) (a : Candidate) (ps : List ℕ) : Type 0 where
+  pub within : All (λ p. p < length w.candidates) ps
+  pub only : (p : ℕ) (s : Candidate) → Contains ps p → slice_get w.candidates p ≡ Some s → Reads w a s × (place_of_candidate s.config (candidate_name s) w.candidates ≡ Some p)
+  pub all : (b : Candidate) → Reads w a b → (p : ℕ) × Contains ps p × (slice_get w.candidates p ≡ Some b)
 
 -- ---- refusals of one kind
 

@@ -7,23 +7,23 @@ use Rattle.jl_prim.specs.declared.numbers.ConfigId.{ConfigId}
 use Rattle.jl_prim.specs.declared.declaration.Requires.{Requires}
 use Rattle.jl_logic.specs.Order.{name_cmp, RisesBy}
 use Rattle.jl_config.specs.declared.configuration.Read.{Read}
-use Rattle.jl_config.specs.declared.site.Site.{Site}
+use Rattle.jl_config.specs.declared.candidate.Candidate.{Candidate}
 use Rattle.jl_config.specs.declared.readings.Reading.{Reading}
 use Rattle.jl_config.specs.declared.readings.Placed.{Placed}
-use Rattle.jl_config.specs.Located.{Scene, site_name, is_here}
+use Rattle.jl_config.specs.Located.{Scene, candidate_name, is_here}
 use Rattle.jl_config.specs.Members.{is_passed_on, IsMember}
 use Rattle.jl_config.specs.Places.{place_named, own_place, AreReadBy}
 
 -- ---- what a name means
 
 -- a module of an ancestor, or one whose mark is set
-abbrev pub is_eligible_site : Scene → Bool → Option Site → Bool
-is_eligible_site w mark None = false
-is_eligible_site w mark (Some s) = not (is_here w s) || mark
+abbrev pub is_eligible_candidate : Scene → Bool → Option Candidate → Bool
+is_eligible_candidate w mark None = false
+is_eligible_candidate w mark (Some s) = not (is_here w s) || mark
 
 -- likewise the module at a place
 abbrev pub is_eligible : Scene → List Bool → ℕ → Bool
-is_eligible w marks p = is_eligible_site w (slice_index_or marks p false) (slice_get w.sites p)
+is_eligible w marks p = is_eligible_candidate w (slice_index_or marks p false) (slice_get w.candidates p)
 
 -- a place whose module is one of these
 abbrev pub eligible_place : Scene → List Bool → Option ℕ → Option ℕ
@@ -31,39 +31,39 @@ eligible_place w marks None = None
 eligible_place w marks (Some p) = if is_eligible w marks p then Some p else None
 
 -- the place of what a name means to the module c
-abbrev pub meant_place : Scene → List Bool → Site → List ℕ → Option ℕ
-meant_place w marks c name = if is_here w c then eligible_place w marks (place_named name w.sites) else own_place w c name
+abbrev pub meant_place : Scene → List Bool → Candidate → List ℕ → Option ℕ
+meant_place w marks c name = if is_here w c then eligible_place w marks (place_named name w.candidates) else own_place w c name
 
 -- the places of what c requires
-abbrev pub required_places : Scene → List Bool → Site → List ℕ
+abbrev pub required_places : Scene → List Bool → Candidate → List ℕ
 required_places w marks c = filter_map (λ (r : Requires). meant_place w marks c r.name) c.observed.declaration.required
 
 -- the place of what an entry passes on
-abbrev pub passed_place : Scene → List Bool → Site → Requires → Option ℕ
+abbrev pub passed_place : Scene → List Bool → Candidate → Requires → Option ℕ
 passed_place w marks c r = if is_passed_on r then meant_place w marks c r.name else None
 
 -- the places of what c requires transitively
-abbrev pub passed_places : Scene → List Bool → Site → List ℕ
+abbrev pub passed_places : Scene → List Bool → Candidate → List ℕ
 passed_places w marks c = filter_map (passed_place w marks c) c.observed.declaration.required
 
 -- what follows each place
 abbrev pub read_rows : Scene → List Bool → List (List ℕ)
-read_rows w marks = map (passed_places w marks) w.sites
+read_rows w marks = map (passed_places w marks) w.candidates
 
 -- what the module a, at a place, reads first
-abbrev pub read_starts : Scene → List Bool → Site → ℕ → List ℕ
+abbrev pub read_starts : Scene → List Bool → Candidate → ℕ → List ℕ
 read_starts w marks a place = required_places w marks a ++ place ∷ []
 
 -- ---- the order of what is read
 
 -- the name of a module, where there is one
-abbrev pub option_name : Option Site → List ℕ
+abbrev pub option_name : Option Candidate → List ℕ
 option_name None = []
-option_name (Some s) = site_name s
+option_name (Some s) = candidate_name s
 
 -- the name of the module at a place
 abbrev pub name_at : Scene → ℕ → List ℕ
-name_at w p = option_name (slice_get w.sites p)
+name_at w p = option_name (slice_get w.candidates p)
 
 -- places by the names there, and where these are the same, as numbers
 abbrev pub place_cmp : Scene → ℕ → ℕ → Ordering
@@ -80,8 +80,8 @@ placed w p = record { name = name_at w p; place = p }
 -- all places in sight, in this order
 pub record AreByName (w : Scene) (xs : List Placed) : Type 0 where
   pub rise : RisesBy placed_cmp xs
-  pub only : (x : Placed) → Contains xs x → (x.place < length w.sites) × (x ≡ placed w x.place)
-  pub all : (p : ℕ) → p < length w.sites → Contains xs (placed w p)
+  pub only : (x : Placed) → Contains xs x → (x.place < length w.candidates) × (x ≡ placed w x.place)
+  pub all : (p : ℕ) → p < length w.candidates → Contains xs (placed w p)
 
 -- a place whose mark is set
 abbrev pub marked_place : List Bool → Placed → Option ℕ
@@ -90,13 +90,13 @@ marked_place marks x = if slice_index_or marks x.place false then Some x.place e
 -- ---- readings
 
 -- the places of what the module a reads, in order
-pub record IsRead (w : Scene) (a : Site) (ps : List ℕ) : Type 0 where
+pub record IsRead (w : Scene) (a : Candidate) (ps : List ℕ) : Type 0 where
   pub rise : RisesBy (place_cmp w) ps
   pub read : AreReadBy w a ps
 
 -- The reader is the module a of the set, with what it reads.
-pub record IsReadingOf (w : Scene) (r : Reading) (a : Site) : Type 0 where
-  pub here : slice_get w.sites r.reader ≡ Some a
+pub record IsReadingOf (w : Scene) (r : Reading) (a : Candidate) : Type 0 where
+  pub here : slice_get w.candidates r.reader ≡ Some a
   pub member : IsMember w a
   pub reads : IsRead w a r.read
 
@@ -107,19 +107,19 @@ reading_cmp w r s = name_cmp (name_at w r.reader) (name_at w s.reader)
 -- one reading for each module of the set, in name order
 pub record AreReadings (w : Scene) (rs : List Reading) : Type 0 where
   pub rise : RisesBy (reading_cmp w) rs
-  pub only : (r : Reading) → Contains rs r → (a : Site) × IsReadingOf w r a
-  pub all : (a : Site) → IsMember w a → (r : Reading) × Contains rs r × IsReadingOf w r a
+  pub only : (r : Reading) → Contains rs r → (a : Candidate) × IsReadingOf w r a
+  pub all : (a : Candidate) → IsMember w a → (r : Reading) × Contains rs r × IsReadingOf w r a
 
 -- ---- reads
 
 -- the configuration of a module, where there is one
-abbrev pub option_config : Option Site → ConfigId
+abbrev pub option_config : Option Candidate → ConfigId
 option_config None = record { 0 = 0 }
 option_config (Some s) = s.config
 
 -- that the module at p reads the one at q
 abbrev pub read_between : Scene → ℕ → ℕ → Read
-read_between w p q = record { reader = name_at w p; config = option_config (slice_get w.sites q); name = name_at w q }
+read_between w p q = record { reader = name_at w p; config = option_config (slice_get w.candidates q); name = name_at w q }
 
 -- the reads of a reading
 abbrev pub reads_in : Scene → Reading → List Read

@@ -10,36 +10,36 @@ use Rattle.std.specs.declared.cmp.Ordering.{Ordering}
 use Rattle.std.specs.Cmp.Lexicographic.{slice_cmp}
 use Rattle.jl_config.specs.declared.fault.ResolveFault.{ResolveFault}
 use Rattle.jl_config.specs.declared.fault.ResolveFault.TheVariants.{NoParents, NotFound, TooMany, Cycle, SameName, SamePackage, OwnPackage, ServicePackage, NoMemory}
-use Rattle.jl_config.specs.declared.site.Site.{Site}
-use Rattle.jl_config.specs.Located.{Asked, Scene, scene_of, site_name, located}
+use Rattle.jl_config.specs.declared.candidate.Candidate.{Candidate}
+use Rattle.jl_config.specs.Located.{Asked, Scene, scene_of, candidate_name, located}
 use Rattle.jl_config.specs.Members.{Needs, Uses, IsProvidedBy, IsMember, Reads}
-use Rattle.jl_config.specs.Orders.{site_cmp}
+use Rattle.jl_config.specs.Orders.{candidate_cmp}
 
 -- ---- what is not there, or too much
 
 -- a name that is not located: a root, or what a module of the set, by, needs
 abbrev pub IsMissing : Scene → List ℕ × Option (List ℕ) → Type 0
 IsMissing w (name, None) = Contains w.roots name × (located w name ≡ None)
-IsMissing w (name, Some by) = (s : Site) × IsMember w s × (site_name s ≡ by) × Needs s name × (located w name ≡ None)
+IsMissing w (name, Some by) = (s : Candidate) × IsMember w s × (candidate_name s ≡ by) × Needs s name × (located w name ≡ None)
 
 -- more modules than a configuration may have are in the set
 abbrev pub IsLarge : Scene → Type 0
-IsLarge w = (ss : List Site) × RisesBy site_cmp ss × All (IsMember w) ss × (most_modules < length ss)
+IsLarge w = (ss : List Candidate) × RisesBy candidate_cmp ss × All (IsMember w) ss × (most_modules < length ss)
 
 -- ---- cycles
 
 -- a requires entry of a means the member b
-abbrev pub HasEdge : Scene → Site → Site → Type 0
+abbrev pub HasEdge : Scene → Candidate → Candidate → Type 0
 HasEdge w a b = (r : Requires) × Contains a.observed.declaration.required r × (located w r.name ≡ Some b) × IsMember w b
 
 -- n + 1 edges lead from a to b
-abbrev pub Leads : Scene → ℕ → Site → Site → Type 0
+abbrev pub Leads : Scene → ℕ → Candidate → Candidate → Type 0
 Leads w zero a b = HasEdge w a b
-Leads w (suc n) a b = (c : Site) × Leads w n a c × HasEdge w c b
+Leads w (suc n) a b = (c : Candidate) × Leads w n a c × HasEdge w c b
 
 -- a member with this name is on a cycle
 abbrev pub IsOnCycle : Scene → List ℕ → Type 0
-IsOnCycle w name = (s : Site) × IsMember w s × (site_name s ≡ name) × ((n : ℕ) × Leads w n s s)
+IsOnCycle w name = (s : Candidate) × IsMember w s × (candidate_name s ≡ name) × ((n : ℕ) × Leads w n s s)
 
 -- ---- packages
 
@@ -49,42 +49,42 @@ ReachesBy None reader = ⊤
 ReachesBy (Some names) reader = Contains names reader
 
 -- s exports the package to modules with this name
-abbrev pub Exports : Site → List ℕ → List ℕ → Type 0
+abbrev pub Exports : Candidate → List ℕ → List ℕ → Type 0
 Exports s p reader = (g : Grant) × Contains s.observed.declaration.exports g × (g.«package» ≡ p) × ReachesBy g.to reader
 
 -- a module of the set reads one that exports the package to it
-abbrev pub Gets : Scene → Site → Site → List ℕ → Type 0
-Gets w a b p = IsMember w a × Reads w a b × Exports b p (site_name a)
+abbrev pub Gets : Scene → Candidate → Candidate → List ℕ → Type 0
+Gets w a b p = IsMember w a × Reads w a b × Exports b p (candidate_name a)
 
 -- the module has the package
-abbrev pub Holds : Site → List ℕ → Type 0
+abbrev pub Holds : Candidate → List ℕ → Type 0
 Holds s p = Contains s.observed.declaration.packages p
 
 -- The reader reads two modules of one name, of different configurations.
 abbrev pub IsSameName : Scene → List ℕ × List ℕ → Type 0
-IsSameName w (reader, name) = (a : Site) × (b : Site) × (c : Site) × IsMember w a × (site_name a ≡ reader)
-    × Reads w a b × Reads w a c × (site_name b ≡ name) × (site_name c ≡ name) × (b.config ≢ c.config)
+IsSameName w (reader, name) = (a : Candidate) × (b : Candidate) × (c : Candidate) × IsMember w a × (candidate_name a ≡ reader)
+    × Reads w a b × Reads w a c × (candidate_name b ≡ name) × (candidate_name c ≡ name) × (b.config ≢ c.config)
 
 -- The reader gets the package from one and from another, neither of which is the reader.
 abbrev pub IsSamePackage : Scene → List ℕ × List ℕ × List ℕ × List ℕ → Type 0
-IsSamePackage w (reader, p, one, other) = (a : Site) × (b : Site) × (c : Site) × (site_name a ≡ reader)
-    × Gets w a b p × Gets w a c p × (site_name b ≡ one) × (site_name c ≡ other)
+IsSamePackage w (reader, p, one, other) = (a : Candidate) × (b : Candidate) × (c : Candidate) × (candidate_name a ≡ reader)
+    × Gets w a b p × Gets w a c p × (candidate_name b ≡ one) × (candidate_name c ≡ other)
     × (one ≢ reader) × (other ≢ reader) × (one ≢ other)
 
 -- The reader has the package, and gets it from another module.
 abbrev pub IsOwnPackage : Scene → List ℕ × List ℕ × List ℕ → Type 0
-IsOwnPackage w (reader, p, other) = (a : Site) × (b : Site) × (site_name a ≡ reader) × Holds a p
-    × Gets w a b p × (site_name b ≡ other) × (other ≢ reader)
+IsOwnPackage w (reader, p, other) = (a : Candidate) × (b : Candidate) × (candidate_name a ≡ reader) × Holds a p
+    × Gets w a b p × (candidate_name b ≡ other) × (other ≢ reader)
 
 -- ---- services
 
 -- the module has the package or gets it
-abbrev pub Sees : Scene → Site → List ℕ → Type 0
-Sees w a p = Holds a p ⊎ ((b : Site) × Gets w a b p)
+abbrev pub Sees : Scene → Candidate → List ℕ → Type 0
+Sees w a p = Holds a p ⊎ ((b : Candidate) × Gets w a b p)
 
 -- The module uses or provides a service whose package it does not see.
 abbrev pub IsServicePackage : Scene → List ℕ × List ℕ → Type 0
-IsServicePackage w (name, service) = (a : Site) × IsMember w a × (site_name a ≡ name)
+IsServicePackage w (name, service) = (a : Candidate) × IsMember w a × (candidate_name a ≡ name)
     × (Uses a service ⊎ IsProvidedBy a service) × (Sees w a (package_of service) → ⊥)
 
 -- ---- in order

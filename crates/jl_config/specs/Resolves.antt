@@ -4,11 +4,11 @@ use Rattle.jl_prim.specs.declared.numbers.ConfigId.{ConfigId}
 use Rattle.jl_prim.specs.declared.declaration.Observed.{Observed}
 use Rattle.jl_logic.specs.Order.{RisesBy, IsLeast}
 use Rattle.jl_config.specs.declared.configuration.Read.{Read}
-use Rattle.jl_config.specs.declared.site.Site.{Site}
+use Rattle.jl_config.specs.declared.candidate.Candidate.{Candidate}
 use Rattle.jl_config.specs.declared.fault.ResolveFault.{ResolveFault}
 use Rattle.jl_config.specs.declared.fault.ResolveFault.TheVariants.{NoMemory}
 use Rattle.jl_config.specs.Configurations.{Configuration}
-use Rattle.jl_config.specs.Located.{Asked, Scene, scene_of, id_of, site_name}
+use Rattle.jl_config.specs.Located.{Asked, Scene, scene_of, id_of, candidate_name}
 use Rattle.jl_config.specs.Members.{IsMember, IsBound, Reads}
 use Rattle.jl_config.specs.Orders.{module_cmp, read_cmp}
 use Rattle.jl_config.specs.Refusals.{Applies, fault_cmp}
@@ -19,24 +19,24 @@ asked known before parents after roots binds =
     record { known = known; before = before; parents = parents; after = after; roots = roots; binds = binds }
 
 -- a module of the new configuration
-abbrev pub new_site : Asked → Observed → Site
-new_site q o = record { config = id_of q; observed = o }
+abbrev pub new_candidate : Asked → Observed → Candidate
+new_candidate q o = record { config = id_of q; observed = o }
 
 -- that a reads b
-abbrev pub read_of : Site → Site → Read
-read_of a b = record { reader = site_name a; config = b.config; name = site_name b }
+abbrev pub read_of : Candidate → Candidate → Read
+read_of a b = record { reader = candidate_name a; config = b.config; name = candidate_name b }
 
 -- exactly the modules of the set, in name order
 pub record AreModules (q : Asked) (os : List Observed) : Type 0 where
   pub rise : RisesBy module_cmp os
-  pub only : (o : Observed) → Contains os o → IsMember (scene_of q) (new_site q o)
-  pub all : (s : Site) → IsMember (scene_of q) s → Contains os s.observed
+  pub only : (o : Observed) → Contains os o → IsMember (scene_of q) (new_candidate q o)
+  pub all : (s : Candidate) → IsMember (scene_of q) s → Contains os s.observed
 
 -- exactly what they read, in the order of the readers and then of what is read
 pub record AreReads (w : Scene) (rs : List Read) : Type 0 where
   pub rise : RisesBy read_cmp rs
-  pub only : (r : Read) → Contains rs r → (a : Site) × (b : Site) × IsMember w a × Reads w a b × (r ≡ read_of a b)
-  pub all : (a b : Site) → IsMember w a → Reads w a b → Contains rs (read_of a b)
+  pub only : (r : Read) → Contains rs r → (a : Candidate) × (b : Candidate) × IsMember w a × Reads w a b × (r ≡ read_of a b)
+  pub all : (a b : Candidate) → IsMember w a → Reads w a b → Contains rs (read_of a b)
 
 -- the configuration that a resolution gives
 pub record IsConfigurationOf (q : Asked) (g : Configuration) : Type 0 where
@@ -53,4 +53,4 @@ Resolves q (Err f) = IsLeast fault_cmp (Applies q) f
 
 -- Each module ends a justified list, so none is superfluous.
 abbrev pub AreJustified : Asked → Configuration → Type 0
-AreJustified q g = (o : Observed) → Contains g.modules o → IsBound (scene_of q) (new_site q o)
+AreJustified q g = (o : Observed) → Contains g.modules o → IsBound (scene_of q) (new_candidate q o)

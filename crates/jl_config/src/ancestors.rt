@@ -3,22 +3,22 @@
 ghost use Rattle.std.specs.Prelude.{◌≡◌, ◌≤◌, ◌+◌, ◌++◌, length, map, OnOk, MatchOption};
 ghost use Rattle.std.specs.List.{flat_map};
 ghost use Rattle.jl_prim.specs.Limits.{most_modules};
-ghost use Rattle.jl_config.specs.Located.{empty_configuration, configuration_of, lineage, sites_of};
-ghost use Rattle.jl_config.specs.Lineages.{reads_with, all_sites, all_reads};
+ghost use Rattle.jl_config.specs.Located.{empty_configuration, configuration_of, lineage, candidates_of};
+ghost use Rattle.jl_config.specs.Lineages.{reads_with, all_candidates, all_reads};
 
+use crate::candidate::{Candidate, push_candidates};
 use crate::configuration::{Configuration, Read};
-use crate::site::{Site, push_sites};
 use jl_prim::{ConfigId, Copied, CopyEnd};
 
 /// Adds the modules of the ancestors, the nearest first, and what they read.
 pub fn push_ancestors(
-    sites: &mut Vec<Site>,
+    candidates: &mut Vec<Candidate>,
     reads: &mut Vec<(ConfigId, Read)>,
     known: &[Configuration],
     parents: &[ConfigId],
 ) -> Result<(), CopyEnd>
     requires { length known.now ≤ most_modules }
-    ensures sites { OnOk result (sites.new.items ≡ sites.old.items ++ all_sites (lineage (length known.now + 1) known.now parents.now)) }
+    ensures candidates { OnOk result (candidates.new.items ≡ candidates.old.items ++ all_candidates (lineage (length known.now + 1) known.now parents.now)) }
     ensures reads { OnOk result (reads.new.items ≡ reads.old.items ++ all_reads (lineage (length known.now + 1) known.now parents.now)) }
 {
     let mut next = parents;
@@ -30,7 +30,7 @@ pub fn push_ancestors(
         let Some(ancestor) = configuration_of(known, *parent) else {
             return Ok(());
         };
-        push_sites(sites, ancestor.id(), ancestor.modules())?;
+        push_candidates(candidates, ancestor.id(), ancestor.modules())?;
         push_reads(reads, ancestor.id(), ancestor.reads())?;
         next = ancestor.parents();
         left -= 1;

@@ -5,15 +5,15 @@ ghost use Rattle.std.specs.List.{filter_map};
 ghost use Rattle.jl_config.specs.Cycles.{edge_place, edge_row, edge_rows, kept_marked, LeadsBack, IsFirstOnCycle};
 ghost use Rattle.jl_config.specs.Places.{AreMarks, AreMembers, CycleFault, IsLeastSome};
 ghost use Rattle.jl_config.specs.Refusals.{fault_cmp};
-ghost use Rattle.jl_config.specs.Located.{site_name};
+ghost use Rattle.jl_config.specs.Located.{candidate_name};
 ghost use Rattle.jl_config.specs.declared.fault.ResolveFault.TheVariants.{Cycle};
-ghost use Rattle.jl_config.specs.declared.site.Site.{Site};
+ghost use Rattle.jl_config.specs.declared.candidate.Candidate.{Candidate};
 
+use crate::candidate::Candidate;
 use crate::fault::ResolveFault;
 use crate::member_rows::push_some;
 use crate::members::Members;
 use crate::scene::Scene;
-use crate::site::Site;
 use jl_closure::closure;
 use jl_prim::{Copied, CopyEnd, Items, Requires};
 use std::alloc::Global;
@@ -31,24 +31,24 @@ pub fn least_cycle(
     let rows = rows_of_edges(alloc, scene, members.marks.as_slice())?;
     match first_on_cycle(alloc, rows.as_slice(), members.places.as_slice())? {
         None => Ok(None),
-        Some(place) => Ok(Some(cycle_at(scene.sites(), place)?)),
+        Some(place) => Ok(Some(cycle_at(scene.candidates(), place)?)),
     }
 }
 
-fn cycle_at(sites: &[Site], place: usize) -> Result<ResolveFault, CopyEnd>
-    requires { place < length sites.now }
-    ensures { IfOk result (λ fault. (s : Site) × (slice_get sites.now place ≡ Some s) × (fault ≡ Cycle (site_name s))) }
+fn cycle_at(candidates: &[Candidate], place: usize) -> Result<ResolveFault, CopyEnd>
+    requires { place < length candidates.now }
+    ensures { IfOk result (λ fault. (s : Candidate) × (slice_get candidates.now place ≡ Some s) × (fault ≡ Cycle (candidate_name s))) }
 {
-    let least = sites[place].observed.declaration.name.copy()?;
+    let least = candidates[place].observed.declaration.name.copy()?;
     Ok(ResolveFault::Cycle { least })
 }
 
 fn rows_of_edges(alloc: Global, scene: &Scene, marks: &[bool]) -> Result<Vec<Items<usize>>, CopyEnd>
     ensures { IfOk result (λ rows. rows.items ≡ edge_rows scene.now marks.now) }
 {
-    let mut rows = Vec::with_capacity(alloc, scene.sites().len())?;
-    for site in scene.sites() {
-        rows.push(row_of_edges(alloc, scene, marks, site)?)?;
+    let mut rows = Vec::with_capacity(alloc, scene.candidates().len())?;
+    for candidate in scene.candidates() {
+        rows.push(row_of_edges(alloc, scene, marks, candidate)?)?;
     }
     Ok(rows)
 }
@@ -57,16 +57,16 @@ fn row_of_edges(
     alloc: Global,
     scene: &Scene,
     marks: &[bool],
-    site: &Site,
+    candidate: &Candidate,
 ) -> Result<Items<usize>, CopyEnd>
-    ensures { IfOk result (λ row. row ≡ edge_row scene.now marks.now site.now) }
+    ensures { IfOk result (λ row. row ≡ edge_row scene.now marks.now candidate.now) }
 {
     let mut row = Vec::new(alloc);
     push_edges(
         &mut row,
         scene,
         marks,
-        site.observed.declaration.required.as_slice(),
+        candidate.observed.declaration.required.as_slice(),
     )?;
     Ok(Items::from_vec(row))
 }

@@ -7,10 +7,10 @@ ghost use Rattle.jl_config.specs.Imported.{IsGranted, IsExportedBy, IsExportedAt
 ghost use Rattle.jl_config.specs.ReadRows.{AreReadings};
 ghost use Rattle.jl_config.specs.Refusals.{ReachesBy};
 
+use crate::candidate::Candidate;
 use crate::readings::Reading;
 use crate::same_name::name_at;
 use crate::scene::Scene;
-use crate::site::Site;
 use crate::sorted::sorted_set;
 use jl_prim::{Copied, CopyEnd, Grant, Items, Name};
 use std::alloc::Global;
@@ -70,24 +70,28 @@ fn push_exports_at(
     reader: usize,
     place: usize,
 ) -> Result<(), CopyEnd>
-    requires reader { reader < length scene.now.sites }
-    requires place { place < length scene.now.sites }
+    requires reader { reader < length scene.now.candidates }
+    requires place { place < length scene.now.candidates }
     ensures { OnOk result (Adds exported.old.items exported.new.items (IsExportedAt scene.now reader place)) }
 {
-    let site = &scene.sites()[place];
+    let candidate = &scene.candidates()[place];
     let name = name_at(scene, reader);
-    if site.observed.declaration.name == *name {
+    if candidate.observed.declaration.name == *name {
         return Ok(());
     }
-    push_exports(exported, name, site)?;
+    push_exports(exported, name, candidate)?;
     Ok(())
 }
 
-fn push_exports(exported: &mut Vec<Exported>, reader: &Name, site: &Site) -> Result<(), CopyEnd>
-    ensures { OnOk result (Adds exported.old.items exported.new.items (IsExportedBy reader.now site.now)) }
+fn push_exports(
+    exported: &mut Vec<Exported>,
+    reader: &Name,
+    candidate: &Candidate,
+) -> Result<(), CopyEnd>
+    ensures { OnOk result (Adds exported.old.items exported.new.items (IsExportedBy reader.now candidate.now)) }
 {
-    for grant in site.observed.declaration.exports.as_slice() {
-        push_grant(exported, reader, site, grant)?;
+    for grant in candidate.observed.declaration.exports.as_slice() {
+        push_grant(exported, reader, candidate, grant)?;
     }
     Ok(())
 }
@@ -95,17 +99,17 @@ fn push_exports(exported: &mut Vec<Exported>, reader: &Name, site: &Site) -> Res
 fn push_grant(
     exported: &mut Vec<Exported>,
     reader: &Name,
-    site: &Site,
+    candidate: &Candidate,
     grant: &Grant,
 ) -> Result<(), CopyEnd>
-    ensures { OnOk result (Adds exported.old.items exported.new.items (IsGranted reader.now site.now grant.now)) }
+    ensures { OnOk result (Adds exported.old.items exported.new.items (IsGranted reader.now candidate.now grant.now)) }
 {
     if !reaches(grant, reader) {
         return Ok(());
     }
     exported.push(Exported {
         package: grant.package.copy()?,
-        exporter: site.observed.declaration.name.copy()?,
+        exporter: candidate.observed.declaration.name.copy()?,
     })?;
     Ok(())
 }

@@ -2,6 +2,7 @@
 #![tactic(auto)]
 
 mod ancestors;
+mod candidate;
 mod configuration;
 mod cycle;
 mod fault;
@@ -19,12 +20,11 @@ mod resolution;
 mod same_name;
 mod scene;
 mod services;
-mod site;
 mod sorted;
 mod tables;
 
+pub use candidate::Candidate;
 pub use configuration::{Configuration, Read};
 pub use fault::ResolveFault;
 pub use law::{refuses_where_one_holds, resolves_always, resolves_once};
 pub use resolution::resolve;
-pub use site::Site;

@@ -7,9 +7,9 @@ ghost use Rattle.jl_config.specs.Members.{is_base, is_followed};
 ghost use Rattle.jl_config.specs.MemberRows.{found_place, needed_place, needed_places, member_row, member_rows, member_starts, above_from};
 ghost use Rattle.jl_config.specs.Tables.{listed};
 
+use crate::candidate::Candidate;
 use crate::provisions::{found_place, providers_of};
 use crate::scene::Scene;
-use crate::site::Site;
 use indexmap::IndexMap;
 use jl_prim::{CopyEnd, Items, Name, Requires};
 use std::alloc::Global;
@@ -34,11 +34,11 @@ fn rows_by(
     scene: &Scene,
     table: &IndexMap<Name, Items<usize>>,
 ) -> Result<Vec<Items<usize>>, CopyEnd>
-    ensures { IfOk result (λ rows. rows.items ≡ map (member_row scene.now (listed table.now)) scene.now.sites) }
+    ensures { IfOk result (λ rows. rows.items ≡ map (member_row scene.now (listed table.now)) scene.now.candidates) }
 {
-    let mut rows = Vec::with_capacity(alloc, scene.sites().len())?;
-    for site in scene.sites() {
-        rows.push(row_of(alloc, scene, table, site)?)?;
+    let mut rows = Vec::with_capacity(alloc, scene.candidates().len())?;
+    for candidate in scene.candidates() {
+        rows.push(row_of(alloc, scene, table, candidate)?)?;
     }
     Ok(rows)
 }
@@ -47,25 +47,25 @@ fn row_of(
     alloc: Global,
     scene: &Scene,
     table: &IndexMap<Name, Items<usize>>,
-    site: &Site,
+    candidate: &Candidate,
 ) -> Result<Items<usize>, CopyEnd>
-    ensures { IfOk result (λ row. row ≡ member_row scene.now (listed table.now) site.now) }
+    ensures { IfOk result (λ row. row ≡ member_row scene.now (listed table.now) candidate.now) }
 {
     let mut row = Vec::new(alloc);
-    push_needed(&mut row, scene, site)?;
-    for service in site.observed.declaration.uses.as_slice() {
+    push_needed(&mut row, scene, candidate)?;
+    for service in candidate.observed.declaration.uses.as_slice() {
         push_listed(&mut row, table, service)?;
     }
     Ok(Items::from_vec(row))
 }
 
-fn push_needed(row: &mut Vec<usize>, scene: &Scene, site: &Site) -> Result<(), CopyEnd>
-    ensures { OnOk result (row.new.items ≡ row.old.items ++ needed_places scene.now site.now) }
+fn push_needed(row: &mut Vec<usize>, scene: &Scene, candidate: &Candidate) -> Result<(), CopyEnd>
+    ensures { OnOk result (row.new.items ≡ row.old.items ++ needed_places scene.now candidate.now) }
 {
-    if !scene.is_here(site) {
+    if !scene.is_here(candidate) {
         return Ok(());
     }
-    for entry in site.observed.declaration.required.as_slice() {
+    for entry in candidate.observed.declaration.required.as_slice() {
         push_some(row, place_of_needed(scene, entry))?;
     }
     Ok(())
@@ -133,13 +133,13 @@ fn roots_found(alloc: Global, scene: &Scene) -> Result<Vec<usize>, CopyEnd>
 }
 
 fn push_above(starts: &mut Vec<usize>, scene: &Scene) -> Result<(), CopyEnd>
-    ensures { OnOk result (starts.new.items ≡ starts.old.items ++ (if scene.now.binds then above_from scene.now 0 scene.now.sites else [])) }
+    ensures { OnOk result (starts.new.items ≡ starts.old.items ++ (if scene.now.binds then above_from scene.now 0 scene.now.candidates else [])) }
 {
     if !scene.binds() {
         return Ok(());
     }
-    for (at, site) in scene.sites().iter().enumerate() {
-        if !scene.is_here(site) {
+    for (at, candidate) in scene.candidates().iter().enumerate() {
+        if !scene.is_here(candidate) {
             starts.push(at)?;
         }
     }

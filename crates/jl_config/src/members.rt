@@ -24,7 +24,7 @@ pub fn members_of(alloc: Global, scene: &Scene) -> Result<Members, CopyEnd>
     ensures places { IfOk result (λ m. AreMembers scene.now m.places.items) }
 {
     let marks = marks_of(alloc, scene)?;
-    let placed = placed_of(alloc, scene.sites(), marks.as_slice())?;
+    let placed = placed_of(alloc, scene.candidates(), marks.as_slice())?;
     let places = places_of(alloc, placed.as_slice())?;
     Ok(Members { marks, places })
 }
@@ -39,12 +39,12 @@ fn marks_of(alloc: Global, scene: &Scene) -> Result<Vec<bool>, CopyEnd>
 }
 
 fn cleared_of(alloc: Global, scene: &Scene, marks: &[bool]) -> Result<Vec<bool>, CopyEnd>
-    requires { length scene.now.sites ≤ length marks.now }
-    ensures { IfOk result (λ kept. kept.items ≡ cleared scene.now scene.now.sites marks.now) }
+    requires { length scene.now.candidates ≤ length marks.now }
+    ensures { IfOk result (λ kept. kept.items ≡ cleared scene.now scene.now.candidates marks.now) }
 {
     let mut kept = Vec::with_capacity(alloc, marks.len())?;
-    for (at, site) in scene.sites().iter().enumerate() {
-        kept.push(marks[at] && scene.is_here(site))?;
+    for (at, candidate) in scene.candidates().iter().enumerate() {
+        kept.push(marks[at] && scene.is_here(candidate))?;
     }
     Ok(kept)
 }

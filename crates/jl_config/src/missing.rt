@@ -61,10 +61,10 @@ fn least_at(
 ) -> Result<Option<Missing>, CopyEnd>
     ensures { IfOk result (λ least. option_map lack_of least ≡ least_from (option_map lack_of earlier) (missing_at scene.now place)) }
 {
-    match scene.sites().get(place) {
+    match scene.candidates().get(place) {
         None => Ok(earlier),
-        Some(site) => {
-            let declaration = &site.observed.declaration;
+        Some(candidate) => {
+            let declaration = &candidate.observed.declaration;
             let entries = declaration.required.as_slice();
             least_of_entries(scene, &declaration.name, entries, earlier)
         }

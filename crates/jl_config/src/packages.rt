@@ -7,11 +7,11 @@ ghost use Rattle.jl_config.specs.Imported.{AreImports, IsImport, IsPackageShared
 ghost use Rattle.jl_config.specs.Places.{IsLeastSome, SamePackageFault, OwnPackageFault};
 ghost use Rattle.jl_config.specs.Refusals.{fault_cmp};
 
+use crate::candidate::Candidate;
 use crate::fault::ResolveFault;
 use crate::imports::{Exported, Imports};
 use crate::same_name::name_at;
 use crate::scene::Scene;
-use crate::site::Site;
 use crate::sorted::{has_name, least_of, sorted_names};
 use jl_prim::{Copied, CopyEnd, Name};
 use std::alloc::Global;
@@ -142,28 +142,28 @@ fn push_owned_in(
     requires { IsImport scene.now imports.now }
     ensures { OnOk result (Adds owned.old.items owned.new.items (IsOwnedIn scene.now imports.now)) }
 {
-    let site = &scene.sites()[imports.reader];
-    let packages = sorted_names(site.observed.declaration.packages.copy()?.into_vec())?;
+    let candidate = &scene.candidates()[imports.reader];
+    let packages = sorted_names(candidate.observed.declaration.packages.copy()?.into_vec())?;
     for exported in imports.exported.as_slice() {
-        push_owned(owned, site, packages.as_slice(), exported)?;
+        push_owned(owned, candidate, packages.as_slice(), exported)?;
     }
     Ok(())
 }
 
 fn push_owned(
     owned: &mut Vec<OwnedPackage>,
-    site: &Site,
+    candidate: &Candidate,
     packages: &[Name],
     exported: &Exported,
 ) -> Result<(), CopyEnd>
-    requires { AreSorted site.now.observed.declaration.packages packages.now }
-    ensures { OnOk result (Adds owned.old.items owned.new.items (IsOwned site.now exported.now)) }
+    requires { AreSorted candidate.now.observed.declaration.packages packages.now }
+    ensures { OnOk result (Adds owned.old.items owned.new.items (IsOwned candidate.now exported.now)) }
 {
     if !has_name(packages, exported.package.as_bytes()) {
         return Ok(());
     }
     owned.push(OwnedPackage {
-        reader: site.observed.declaration.name.copy()?,
+        reader: candidate.observed.declaration.name.copy()?,
         package: exported.package.copy()?,
         other: exported.exporter.copy()?,
     })?;

@@ -5,7 +5,7 @@ ghost use Rattle.jl_logic.specs.Order.{is_text, RisesBy};
 ghost use Rattle.jl_config.specs.Placed.{placed_cmp, place_in, marked_place, IsSought};
 ghost use Rattle.jl_config.specs.Tables.{or_at};
 
-use crate::site::Site;
+use crate::candidate::Candidate;
 use jl_prim::{Copied, CopyEnd, Name};
 use std::alloc::Global;
 
@@ -17,15 +17,19 @@ pub struct Placed {
 }
 
 /// The first marked place of each name, in name order.
-pub fn placed_of(alloc: Global, sites: &[Site], marks: &[bool]) -> Result<Vec<Placed>, CopyEnd>
-    requires { length sites.now ≤ length marks.now }
+pub fn placed_of(
+    alloc: Global,
+    candidates: &[Candidate],
+    marks: &[bool],
+) -> Result<Vec<Placed>, CopyEnd>
+    requires { length candidates.now ≤ length marks.now }
     ensures rise { IfOk result (λ placed. RisesBy placed_cmp placed.items) }
-    ensures finds { IfOk result (λ placed. (q : List ℕ) → place_in q placed.items ≡ marked_place q 0 sites.now marks.now) }
+    ensures finds { IfOk result (λ placed. (q : List ℕ) → place_in q placed.items ≡ marked_place q 0 candidates.now marks.now) }
 {
     let mut placed = Vec::new(alloc);
-    for (at, site) in sites.iter().enumerate() {
+    for (at, candidate) in candidates.iter().enumerate() {
         if marks[at] {
-            put(&mut placed, &site.observed.declaration.name, at)?;
+            put(&mut placed, &candidate.observed.declaration.name, at)?;
         }
     }
     Ok(placed)

@@ -4,8 +4,8 @@ ghost use Rattle.std.specs.Prelude.{◌≡◌, ◌++◌, List, ℕ, IfOk, OnOk};
 ghost use Rattle.jl_config.specs.MemberRows.{found_place, here_at, is_place, provided_by, provisions_of, provisions_from, offers, providers};
 ghost use Rattle.jl_config.specs.Tables.{listed};
 
+use crate::candidate::Candidate;
 use crate::scene::Scene;
-use crate::site::Site;
 use crate::tables::note_place;
 use indexmap::IndexMap;
 use jl_prim::{Copied, CopyEnd, Items, Name, Provides};
@@ -33,8 +33,8 @@ pub fn found_place(scene: &Scene, name: &Name) -> Option<usize>
 fn is_here_at(scene: &Scene, place: usize) -> bool
     ensures { result ≡ here_at scene.now place }
 {
-    match scene.sites().get(place) {
-        Some(site) => scene.is_here(site),
+    match scene.candidates().get(place) {
+        Some(candidate) => scene.is_here(candidate),
         None => false,
     }
 }
@@ -67,8 +67,8 @@ fn offers_of(alloc: Global, scene: &Scene) -> Result<Vec<Provision>, CopyEnd>
     if !scene.binds() {
         return Ok(all);
     }
-    for (at, site) in scene.sites().iter().enumerate() {
-        push_provisions_of(&mut all, scene, at, site)?;
+    for (at, candidate) in scene.candidates().iter().enumerate() {
+        push_provisions_of(&mut all, scene, at, candidate)?;
     }
     Ok(all)
 }
@@ -77,11 +77,11 @@ fn push_provisions_of(
     all: &mut Vec<Provision>,
     scene: &Scene,
     at: usize,
-    site: &Site,
+    candidate: &Candidate,
 ) -> Result<(), CopyEnd>
-    ensures { OnOk result (all.new.items ≡ all.old.items ++ provisions_of scene.now at site.now) }
+    ensures { OnOk result (all.new.items ≡ all.old.items ++ provisions_of scene.now at candidate.now) }
 {
-    let declaration = &site.observed.declaration;
+    let declaration = &candidate.observed.declaration;
     if is_that(at, found_place(scene, &declaration.name)) {
         push_provisions(all, at, declaration.provides.as_slice())?;
     }

@@ -8,9 +8,9 @@ ghost use Rattle.std.specs.Option.{option_to_list};
 ghost use Rattle.jl_closure.specs.Reached.{AreMarksOf};
 ghost use Rattle.jl_config.specs.ReadRows.{is_eligible, eligible_place, meant_place, required_places, passed_place, passed_places, read_rows, read_starts, marked_place, AreByName, AreReadings};
 
+use crate::candidate::Candidate;
 use crate::members::Members;
 use crate::scene::Scene;
-use crate::site::Site;
 use crate::sorted::sorted_set;
 use jl_closure::closure;
 use jl_prim::{Copied, CopyEnd, Items, Name, Requires};
@@ -90,9 +90,9 @@ fn push_some(places: &mut Vec<usize>, place: Option<usize>) -> Result<(), CopyEn
 fn is_eligible(scene: &Scene, marks: &[bool], place: usize) -> bool
     ensures { result ≡ is_eligible scene.now marks.now place }
 {
-    match scene.sites().get(place) {
+    match scene.candidates().get(place) {
         None => false,
-        Some(site) => !scene.is_here(site) || is_marked(marks, place),
+        Some(candidate) => !scene.is_here(candidate) || is_marked(marks, place),
     }
 }
 
@@ -112,21 +112,26 @@ fn place_if_eligible(scene: &Scene, marks: &[bool], place: Option<usize>) -> Opt
 }
 
 /// The place of the module that a name means to a module.
-fn place_meant(scene: &Scene, marks: &[bool], site: &Site, name: &Name) -> Option<usize>
-    ensures { result ≡ meant_place scene.now marks.now site.now name.now }
+fn place_meant(scene: &Scene, marks: &[bool], candidate: &Candidate, name: &Name) -> Option<usize>
+    ensures { result ≡ meant_place scene.now marks.now candidate.now name.now }
 {
-    if scene.is_here(site) {
+    if scene.is_here(candidate) {
         place_if_eligible(scene, marks, scene.named(name))
     } else {
-        scene.own(site, name)
+        scene.own(candidate, name)
     }
 }
 
-fn place_passed_on(scene: &Scene, marks: &[bool], site: &Site, entry: &Requires) -> Option<usize>
-    ensures { result ≡ passed_place scene.now marks.now site.now entry.now }
+fn place_passed_on(
+    scene: &Scene,
+    marks: &[bool],
+    candidate: &Candidate,
+    entry: &Requires,
+) -> Option<usize>
+    ensures { result ≡ passed_place scene.now marks.now candidate.now entry.now }
 {
     if is_passed_on(entry) {
-        place_meant(scene, marks, site, &entry.name)
+        place_meant(scene, marks, candidate, &entry.name)
     } else {
         None
     }
@@ -137,13 +142,16 @@ fn places_required(
     alloc: Global,
     scene: &Scene,
     marks: &[bool],
-    site: &Site,
+    candidate: &Candidate,
 ) -> Result<Vec<usize>, CopyEnd>
-    ensures { IfOk result (λ places. places.items ≡ required_places scene.now marks.now site.now) }
+    ensures { IfOk result (λ places. places.items ≡ required_places scene.now marks.now candidate.now) }
 {
     let mut places = Vec::new(alloc);
-    for entry in site.observed.declaration.required.as_slice() {
-        push_some(&mut places, place_meant(scene, marks, site, &entry.name))?;
+    for entry in candidate.observed.declaration.required.as_slice() {
+        push_some(
+            &mut places,
+            place_meant(scene, marks, candidate, &entry.name),
+        )?;
     }
     Ok(places)
 }
@@ -153,13 +161,13 @@ fn places_passed_on(
     alloc: Global,
     scene: &Scene,
     marks: &[bool],
-    site: &Site,
+    candidate: &Candidate,
 ) -> Result<Vec<usize>, CopyEnd>
-    ensures { IfOk result (λ places. places.items ≡ passed_places scene.now marks.now site.now) }
+    ensures { IfOk result (λ places. places.items ≡ passed_places scene.now marks.now candidate.now) }
 {
     let mut places = Vec::new(alloc);
-    for entry in site.observed.declaration.required.as_slice() {
-        push_some(&mut places, place_passed_on(scene, marks, site, entry))?;
+    for entry in candidate.observed.declaration.required.as_slice() {
+        push_some(&mut places, place_passed_on(scene, marks, candidate, entry))?;
     }
     Ok(places)
 }
@@ -168,10 +176,10 @@ fn places_passed_on(
 fn rows_of(alloc: Global, scene: &Scene, marks: &[bool]) -> Result<Vec<Items<usize>>, CopyEnd>
     ensures { IfOk result (λ rows. rows.items ≡ read_rows scene.now marks.now) }
 {
-    let sites = scene.sites();
-    let mut rows = Vec::with_capacity(alloc, sites.len())?;
-    for site in sites {
-        rows.push(Items::from_vec(places_passed_on(alloc, scene, marks, site)?))?;
+    let candidates = scene.candidates();
+    let mut rows = Vec::with_capacity(alloc, candidates.len())?;
+    for candidate in candidates {
+        rows.push(Items::from_vec(places_passed_on(alloc, scene, marks, candidate)?))?;
     }
     Ok(rows)
 }
@@ -185,10 +193,10 @@ fn marks_of_reader(
     place: usize,
 ) -> Result<Vec<bool>, CopyEnd>
     requires rows { next.now ≡ read_rows scene.now marks.now }
-    requires within { place < length scene.now.sites }
-    ensures { IfOk result (λ reached. (a : Site) → slice_get scene.now.sites place ≡ Some a → AreMarksOf (read_rows scene.now marks.now) (read_starts scene.now marks.now a place) reached.items) }
+    requires within { place < length scene.now.candidates }
+    ensures { IfOk result (λ reached. (a : Candidate) → slice_get scene.now.candidates place ≡ Some a → AreMarksOf (read_rows scene.now marks.now) (read_starts scene.now marks.now a place) reached.items) }
 {
-    let mut starts = places_required(alloc, scene, marks, &scene.sites()[place])?;
+    let mut starts = places_required(alloc, scene, marks, &scene.candidates()[place])?;
     starts.push(place)?;
     Ok(closure(alloc, next, starts.as_slice())?)
 }
@@ -197,10 +205,10 @@ fn marks_of_reader(
 fn places_by_name(alloc: Global, scene: &Scene) -> Result<Vec<Placed>, CopyEnd>
     ensures { IfOk result (λ order. AreByName scene.now order.items) }
 {
-    let mut order = Vec::with_capacity(alloc, scene.sites().len())?;
-    for (place, site) in scene.sites().iter().enumerate() {
+    let mut order = Vec::with_capacity(alloc, scene.candidates().len())?;
+    for (place, candidate) in scene.candidates().iter().enumerate() {
         order.push(Placed {
-            name: site.observed.declaration.name.copy()?,
+            name: candidate.observed.declaration.name.copy()?,
             place,
         })?;
     }

@@ -38,13 +38,13 @@ fn push_reads(reads: &mut Vec<Read>, scene: &Scene, reading: &Reading) -> Result
 }
 
 fn read_between(scene: &Scene, reader: usize, place: usize) -> Result<Read, CopyEnd>
-    requires reader { reader < length scene.now.sites }
-    requires place { place < length scene.now.sites }
+    requires reader { reader < length scene.now.candidates }
+    requires place { place < length scene.now.candidates }
     ensures { IfOk result (λ read. read ≡ read_between scene.now reader place) }
 {
     Ok(Read {
         reader: name_at(scene, reader).copy()?,
-        config: scene.sites()[place].config,
+        config: scene.candidates()[place].config,
         name: name_at(scene, place).copy()?,
     })
 }

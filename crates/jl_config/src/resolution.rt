@@ -11,7 +11,7 @@ ghost use Rattle.jl_config.specs.ReadRows.{AreReadings};
 ghost use Rattle.jl_config.specs.Resolves.{asked, Resolves, AreReads, AreJustified};
 ghost use Rattle.jl_config.specs.Settled.{StartsAt, Settles};
 ghost use Rattle.jl_config.specs.declared.fault.ResolveFault.{ResolveFault};
-ghost use Rattle.jl_config.specs.declared.site.Site.{Site};
+ghost use Rattle.jl_config.specs.declared.candidate.Candidate.{Candidate};
 
 use crate::configuration::Configuration;
 use crate::cycle::least_cycle;
@@ -176,10 +176,10 @@ fn copies_at(alloc: Global, scene: &Scene, places: &[usize]) -> Result<Vec<Obser
 }
 
 fn push_copy(copies: &mut Vec<Observed>, scene: &Scene, place: usize) -> Result<(), CopyEnd>
-    ensures { OnOk result (copies.new.items ≡ copies.old.items ++ map (λ (s : Site). s.observed) (option_to_list (slice_get scene.now.sites place))) }
+    ensures { OnOk result (copies.new.items ≡ copies.old.items ++ map (λ (s : Candidate). s.observed) (option_to_list (slice_get scene.now.candidates place))) }
 {
-    if let Some(site) = scene.sites().get(place) {
-        copies.push(site.observed.copy()?)?;
+    if let Some(candidate) = scene.candidates().get(place) {
+        copies.push(candidate.observed.copy()?)?;
     }
     Ok(())
 }

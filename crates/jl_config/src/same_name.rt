@@ -89,8 +89,8 @@ fn push_shared_at(
 
 /// The name of the module at a place in sight.
 pub fn name_at(scene: &Scene, place: usize) -> &Name
-    requires { place < length scene.now.sites }
+    requires { place < length scene.now.candidates }
     ensures { result.now ≡ name_at scene.now place }
 {
-    &scene.sites()[place].observed.declaration.name
+    &scene.candidates()[place].observed.declaration.name
 }

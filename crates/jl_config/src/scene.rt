@@ -7,13 +7,13 @@ ghost use Rattle.indexmap.specs.IndexMap.{get};
 ghost use Rattle.jl_prim.specs.Limits.{most_modules};
 ghost use Rattle.jl_config.specs.Lineages.{is_reader, is_read_in, is_named, is_in};
 ghost use Rattle.jl_config.specs.Located.{scene_of, is_here, find_read};
-ghost use Rattle.jl_config.specs.Places.{place_named, place_of_site, own_place};
+ghost use Rattle.jl_config.specs.Places.{place_named, place_of_candidate, own_place};
 ghost use Rattle.jl_config.specs.Resolves.{asked};
 ghost use Rattle.jl_config.specs.Tables.{listed, places_where, first_of_places};
 
 use crate::ancestors::push_ancestors;
+use crate::candidate::{Candidate, push_candidates};
 use crate::configuration::{Configuration, Read};
-use crate::site::{Site, push_sites};
 use crate::tables::{note_first, note_place};
 use indexmap::IndexMap;
 use jl_prim::{ConfigId, Copied, CopyEnd, Found, Items, Name};
@@ -24,13 +24,13 @@ use std::marker::Model;
 #[derive(Drop)]
 pub struct Scene {
     id: ConfigId,
-    sites: Vec<Site>,
+    candidates: Vec<Candidate>,
     reads: Vec<(ConfigId, Read)>,
     roots: Items<Name>,
     binds: bool,
     // The first place of each name.
     places: IndexMap<Name, usize>,
-    // Where in `reads` the entries of each reader stand, and where in `sites` the modules of each name.
+    // Where in `reads` the entries of each reader stand, and where in `candidates` the modules of each name.
     readers: IndexMap<Name, Items<usize>>,
     named: IndexMap<Name, Items<usize>>,
 }
@@ -47,11 +47,11 @@ impl Model for Scene {
 
     ghost Value = { seen.Scene };
 
-    ghost view = { λ w. record { id = w.id; sites = w.sites.items; reads = w.reads.items; roots = w.roots; binds = w.binds } };
+    ghost view = { λ w. record { id = w.id; candidates = w.candidates.items; reads = w.reads.items; roots = w.roots; binds = w.binds } };
 
-    ghost invariant = { λ w. ((name : List ℕ) → get (pointwise nat_eq) w.places name ≡ place_named name w.sites.items)
+    ghost invariant = { λ w. ((name : List ℕ) → get (pointwise nat_eq) w.places name ≡ place_named name w.candidates.items)
         × ((reader : List ℕ) → listed w.readers reader ≡ places_where (is_reader reader) 0 w.reads.items)
-        × ((name : List ℕ) → listed w.named name ≡ places_where (is_named name) 0 w.sites.items) };
+        × ((name : List ℕ) → listed w.named name ≡ places_where (is_named name) 0 w.candidates.items) };
 }
 
 impl Scene {
@@ -70,18 +70,18 @@ impl Scene {
         ensures { IfOk result (λ w. w ≡ scene_of (asked known.now before.now.modules parents.now after.now.modules roots.now bind)) }
     {
         let id = ConfigId(known.len() as u32 + 1);
-        let mut sites = Vec::new(alloc);
+        let mut candidates = Vec::new(alloc);
         let mut reads = Vec::new(alloc);
-        push_sites(&mut sites, id, before.modules.as_slice())?;
-        push_ancestors(&mut sites, &mut reads, known, parents)?;
-        push_sites(&mut sites, id, after.modules.as_slice())?;
-        let places = first_places(alloc, sites.as_slice())?;
+        push_candidates(&mut candidates, id, before.modules.as_slice())?;
+        push_ancestors(&mut candidates, &mut reads, known, parents)?;
+        push_candidates(&mut candidates, id, after.modules.as_slice())?;
+        let places = first_places(alloc, candidates.as_slice())?;
         let readers = places_by_reader(alloc, reads.as_slice())?;
-        let named = places_by_name(alloc, sites.as_slice())?;
+        let named = places_by_name(alloc, candidates.as_slice())?;
         let roots = Items::from_vec(copies_of(alloc, roots)?);
         Ok(Scene {
             id,
-            sites,
+            candidates,
             reads,
             roots,
             binds: bind,
@@ -92,10 +92,10 @@ impl Scene {
     }
 
     /// The modules.
-    pub fn sites(&self) -> &[Site]
-        ensures { result.now ≡ self.now.sites }
+    pub fn candidates(&self) -> &[Candidate]
+        ensures { result.now ≡ self.now.candidates }
     {
-        self.sites.as_slice()
+        self.candidates.as_slice()
     }
 
     /// The names from which the set begins.
@@ -113,25 +113,25 @@ impl Scene {
     }
 
     /// Whether a finder observes the module. Others are an ancestor's.
-    pub fn is_here(&self, site: &Site) -> bool
-        ensures { result ≡ is_here self.now site.now }
+    pub fn is_here(&self, candidate: &Candidate) -> bool
+        ensures { result ≡ is_here self.now candidate.now }
     {
-        site.config.0 == self.id.0
+        candidate.config.0 == self.id.0
     }
 
     /// The place of the module that a name means first.
     pub fn named(&self, name: &Name) -> Option<usize>
-        ensures { result ≡ place_named name.now self.now.sites }
+        ensures { result ≡ place_named name.now self.now.candidates }
     {
         self.places.get(name).copied()
     }
 
     /// The place of the module that a name means to a module of an ancestor: the one that its own
     /// configuration has it read.
-    pub fn own(&self, site: &Site, name: &Name) -> Option<usize>
-        ensures { result ≡ own_place self.now site.now name.now }
+    pub fn own(&self, candidate: &Candidate, name: &Name) -> Option<usize>
+        ensures { result ≡ own_place self.now candidate.now name.now }
     {
-        let read = self.read_by(site.config, &site.observed.declaration.name, name)?;
+        let read = self.read_by(candidate.config, &candidate.observed.declaration.name, name)?;
         self.place_of(read.config, &read.name)
     }
 
@@ -147,10 +147,10 @@ impl Scene {
 
     // The first place of a configuration's module with a name.
     fn place_of(&self, config: ConfigId, name: &Name) -> Option<usize>
-        ensures { result ≡ place_of_site config name.now self.now.sites }
+        ensures { result ≡ place_of_candidate config name.now self.now.candidates }
     {
         let places = self.named.get(name)?;
-        first_in(self.sites.as_slice(), places.as_slice(), config)
+        first_in(self.candidates.as_slice(), places.as_slice(), config)
     }
 }
 
@@ -165,12 +165,12 @@ fn copies_of(alloc: Global, names: &[Name]) -> Result<Vec<Name>, CopyEnd>
 }
 
 /// The place at which each name stands first.
-fn first_places(alloc: Global, sites: &[Site]) -> Result<IndexMap<Name, usize>, CopyEnd>
-    ensures { IfOk result (λ places. (name : List ℕ) → get (pointwise nat_eq) places name ≡ place_named name sites.now) }
+fn first_places(alloc: Global, candidates: &[Candidate]) -> Result<IndexMap<Name, usize>, CopyEnd>
+    ensures { IfOk result (λ places. (name : List ℕ) → get (pointwise nat_eq) places name ≡ place_named name candidates.now) }
 {
     let mut places = IndexMap::new(alloc);
-    for (at, site) in sites.iter().enumerate() {
-        note_first(&mut places, &site.observed.declaration.name, at)?;
+    for (at, candidate) in candidates.iter().enumerate() {
+        note_first(&mut places, &candidate.observed.declaration.name, at)?;
     }
     Ok(places)
 }
@@ -190,12 +190,15 @@ fn places_by_reader(
 }
 
 /// The places of each name.
-fn places_by_name(alloc: Global, sites: &[Site]) -> Result<IndexMap<Name, Items<usize>>, CopyEnd>
-    ensures { IfOk result (λ table. (name : List ℕ) → listed table name ≡ places_where (is_named name) 0 sites.now) }
+fn places_by_name(
+    alloc: Global,
+    candidates: &[Candidate],
+) -> Result<IndexMap<Name, Items<usize>>, CopyEnd>
+    ensures { IfOk result (λ table. (name : List ℕ) → listed table name ≡ places_where (is_named name) 0 candidates.now) }
 {
     let mut table = IndexMap::new(alloc);
-    for (at, site) in sites.iter().enumerate() {
-        note_place(alloc, &mut table, &site.observed.declaration.name, at)?;
+    for (at, candidate) in candidates.iter().enumerate() {
+        note_place(alloc, &mut table, &candidate.observed.declaration.name, at)?;
     }
     Ok(table)
 }
@@ -227,22 +230,22 @@ fn is_read_at(reads: &[(ConfigId, Read)], place: usize, config: ConfigId, name: 
 }
 
 /// Of some places the first of a configuration's module.
-fn first_in(sites: &[Site], places: &[usize], config: ConfigId) -> Option<usize>
-    ensures { result ≡ first_of_places (is_in config) sites.now places.now }
+fn first_in(candidates: &[Candidate], places: &[usize], config: ConfigId) -> Option<usize>
+    ensures { result ≡ first_of_places (is_in config) candidates.now places.now }
 {
     for place in places {
-        if is_in_at(sites, *place, config) {
+        if is_in_at(candidates, *place, config) {
             return Some(*place);
         }
     }
     None
 }
 
-fn is_in_at(sites: &[Site], place: usize, config: ConfigId) -> bool
-    ensures { result ≡ option_map_or (is_in config) (slice_get sites.now place) false }
+fn is_in_at(candidates: &[Candidate], place: usize, config: ConfigId) -> bool
+    ensures { result ≡ option_map_or (is_in config) (slice_get candidates.now place) false }
 {
-    match sites.get(place) {
-        Some(site) => site.config.0 == config.0,
+    match candidates.get(place) {
+        Some(candidate) => candidate.config.0 == config.0,
         None => false,
     }
 }

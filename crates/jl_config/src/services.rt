@@ -9,10 +9,10 @@ ghost use Rattle.jl_config.specs.Places.{IsLeastSome, SameNameFault, ServiceFaul
 ghost use Rattle.jl_config.specs.Refusals.{fault_cmp};
 ghost use Rattle.jl_config.specs.declared.fault.ResolveFault.{ResolveFault};
 
+use crate::candidate::Candidate;
 use crate::fault::ResolveFault;
 use crate::imports::{Exported, Imports, reaches};
 use crate::scene::Scene;
-use crate::site::Site;
 use crate::sorted::{has_name, least_of, sorted_names};
 use jl_names::package_of;
 use jl_prim::{Copied, CopyEnd, Grant, Name};
@@ -63,62 +63,62 @@ fn push_unseen_in(
     requires { IsImport scene.now imports.now }
     ensures { OnOk result (Adds unseen.old.items unseen.new.items (IsUnseenIn scene.now imports.now)) }
 {
-    let site = &scene.sites()[imports.reader];
-    let own = own_packages(site)?;
+    let candidate = &scene.candidates()[imports.reader];
+    let own = own_packages(candidate)?;
     let exported = imports.exported.as_slice();
-    push_unseen_uses(unseen, site, own.as_slice(), exported)?;
-    push_unseen_provides(unseen, site, own.as_slice(), exported)?;
+    push_unseen_uses(unseen, candidate, own.as_slice(), exported)?;
+    push_unseen_provides(unseen, candidate, own.as_slice(), exported)?;
     Ok(())
 }
 
 fn push_unseen_uses(
     unseen: &mut Vec<UnseenService>,
-    site: &Site,
+    candidate: &Candidate,
     own: &[Name],
     exported: &[Exported],
 ) -> Result<(), CopyEnd>
-    requires own { AreOwn site.now own.now }
+    requires own { AreOwn candidate.now own.now }
     requires exported { RisesBy exported_cmp exported.now }
-    ensures { OnOk result (Adds unseen.old.items unseen.new.items (Among (IsUnseen site.now exported.now) site.now.observed.declaration.uses)) }
+    ensures { OnOk result (Adds unseen.old.items unseen.new.items (Among (IsUnseen candidate.now exported.now) candidate.now.observed.declaration.uses)) }
 {
-    for service in site.observed.declaration.uses.as_slice() {
-        push_unseen(unseen, site, own, exported, service)?;
+    for service in candidate.observed.declaration.uses.as_slice() {
+        push_unseen(unseen, candidate, own, exported, service)?;
     }
     Ok(())
 }
 
 fn push_unseen_provides(
     unseen: &mut Vec<UnseenService>,
-    site: &Site,
+    candidate: &Candidate,
     own: &[Name],
     exported: &[Exported],
 ) -> Result<(), CopyEnd>
-    requires own { AreOwn site.now own.now }
+    requires own { AreOwn candidate.now own.now }
     requires exported { RisesBy exported_cmp exported.now }
-    ensures { OnOk result (Adds unseen.old.items unseen.new.items (Among (IsUnseenProvided site.now exported.now) site.now.observed.declaration.provides)) }
+    ensures { OnOk result (Adds unseen.old.items unseen.new.items (Among (IsUnseenProvided candidate.now exported.now) candidate.now.observed.declaration.provides)) }
 {
-    for provided in site.observed.declaration.provides.as_slice() {
-        push_unseen(unseen, site, own, exported, &provided.service)?;
+    for provided in candidate.observed.declaration.provides.as_slice() {
+        push_unseen(unseen, candidate, own, exported, &provided.service)?;
     }
     Ok(())
 }
 
 fn push_unseen(
     unseen: &mut Vec<UnseenService>,
-    site: &Site,
+    candidate: &Candidate,
     own: &[Name],
     exported: &[Exported],
     service: &Name,
 ) -> Result<(), CopyEnd>
-    requires own { AreOwn site.now own.now }
+    requires own { AreOwn candidate.now own.now }
     requires exported { RisesBy exported_cmp exported.now }
-    ensures { OnOk result (Adds unseen.old.items unseen.new.items (IsUnseen site.now exported.now service.now)) }
+    ensures { OnOk result (Adds unseen.old.items unseen.new.items (IsUnseen candidate.now exported.now service.now)) }
 {
     if sees(own, exported, package_of(service.as_bytes())) {
         return Ok(());
     }
     unseen.push(UnseenService {
-        module: site.observed.declaration.name.copy()?,
+        module: candidate.observed.declaration.name.copy()?,
         service: service.copy()?,
     })?;
     Ok(())
@@ -134,21 +134,21 @@ fn sees(own: &[Name], exported: &[Exported], name: &[u8]) -> bool
 }
 
 /// The packages that a module has or exports to itself, in order.
-fn own_packages(site: &Site) -> Result<Vec<Name>, CopyEnd>
-    ensures { IfOk result (λ own. AreOwn site.now own.items) }
+fn own_packages(candidate: &Candidate) -> Result<Vec<Name>, CopyEnd>
+    ensures { IfOk result (λ own. AreOwn candidate.now own.items) }
 {
-    let mut own = site.observed.declaration.packages.copy()?.into_vec();
-    for grant in site.observed.declaration.exports.as_slice() {
-        push_own_export(&mut own, site, grant)?;
+    let mut own = candidate.observed.declaration.packages.copy()?.into_vec();
+    for grant in candidate.observed.declaration.exports.as_slice() {
+        push_own_export(&mut own, candidate, grant)?;
     }
     let sorted = sorted_names(own)?;
     Ok(sorted)
 }
 
-fn push_own_export(own: &mut Vec<Name>, site: &Site, grant: &Grant) -> Result<(), CopyEnd>
-    ensures { OnOk result (Adds own.old.items own.new.items (IsOwnExport site.now grant.now)) }
+fn push_own_export(own: &mut Vec<Name>, candidate: &Candidate, grant: &Grant) -> Result<(), CopyEnd>
+    ensures { OnOk result (Adds own.old.items own.new.items (IsOwnExport candidate.now grant.now)) }
 {
-    if !reaches(grant, &site.observed.declaration.name) {
+    if !reaches(grant, &candidate.observed.declaration.name) {
         return Ok(());
     }
     own.push(grant.package.copy()?)?;

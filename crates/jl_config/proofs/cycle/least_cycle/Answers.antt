@@ -1,6 +1,6 @@
 use Rattle.std.proofs.Common.{◌≡◌, ◌∙◌, ◌<◌, ap, sym, subst, None, Some, All, Option, length, slice_get, List, ℕ}
 use Rattle.jl_logic.specs.Order.{IsLeast}
-use Rattle.jl_config.specs.declared.site.Site.{Site}
+use Rattle.jl_config.specs.declared.candidate.Candidate.{Candidate}
 use Rattle.jl_config.specs.declared.fault.ResolveFault.{ResolveFault}
 use Rattle.jl_config.specs.Places.{CycleFault}
 use Rattle.jl_config.specs.Refusals.{fault_cmp}
@@ -36,7 +36,7 @@ cycle_at-requires c =
     let ps = c.args.members.now.places.items in
     let e : c.as_slice-2.result.now ≡ edge_rows w marks = c.as_slice-2.ensures.value ∙ c.in_ok-rows.ensures ∙ ap (edge_rows w) c.as_slice.ensures.value in
     let first : IsFirstOnCycle (edge_rows w marks) ps (Some c.in-Some.place) = as_found (edge_rows w marks) c.as_slice-2.result.now ps c.as_slice-3.result.now c.in_ok-first_on_cycle.field-0 (Some c.in-Some.place) e c.as_slice-3.ensures.value c.in-Some.is c.in_ok-first_on_cycle.ensures in
-    subst (λ (l : List Site). c.in-Some.place < length l) (sym c.sites.ensures) (first_within w marks c.requires.marks ps c.requires.places c.in-Some.place first)
+    subst (λ (l : List Candidate). c.in-Some.place < length l) (sym c.candidates.ensures) (first_within w marks c.requires.marks ps c.requires.places c.in-Some.place first)
 
 pub returns : goal.returns
 returns c =
@@ -46,5 +46,5 @@ returns c =
     let e : c.as_slice-2.result.now ≡ edge_rows w marks = c.as_slice-2.ensures.value ∙ c.in_ok-rows.ensures ∙ ap (edge_rows w) c.as_slice.ensures.value in
     let first : IsFirstOnCycle (edge_rows w marks) ps (Some c.in-Some.place) = as_found (edge_rows w marks) c.as_slice-2.result.now ps c.as_slice-3.result.now c.in_ok-first_on_cycle.field-0 (Some c.in-Some.place) e c.as_slice-3.ensures.value c.in-Some.is c.in_ok-first_on_cycle.ensures in
     let at = c.in_ok-cycle_at-in-Some.ensures in
-    let here : slice_get w.sites c.in-Some.place ≡ Some at.0 = ap (λ (l : List Site). slice_get l c.in-Some.place) (sym c.sites.ensures) ∙ at.1 in
+    let here : slice_get w.candidates c.in-Some.place ≡ Some at.0 = ap (λ (l : List Candidate). slice_get l c.in-Some.place) (sym c.candidates.ensures) ∙ at.1 in
     subst (λ (f : ResolveFault). IsLeast fault_cmp (CycleFault w) f) (sym at.2) (cycle_right w marks c.requires.marks ps c.requires.places c.in-Some.place at.0 here first)

@@ -3,5 +3,5 @@ use Rattle.jl_config.specs.MemberRows.{member_row}
 use Rattle.jl_config.specs.Tables.{listed}
 use Rattle.jl_config.proofs.member_rows.rows_by.Given as goal
 
-abbrev pub invariant-loop-site : goal.invariant-loop-site
-invariant-loop-site l = l.rows.items ≡ map (member_row l.scene (listed l.table)) (take l.site-index l.scene.sites)
+abbrev pub invariant-loop-candidate : goal.invariant-loop-candidate
+invariant-loop-candidate l = l.rows.items ≡ map (member_row l.scene (listed l.table)) (take l.candidate-index l.scene.candidates)

@@ -26,6 +26,6 @@ returns c =
     let f : c.as_slice-2.result.now ≡ member_starts w = c.as_slice-2.ensures.value ∙ c.in_ok-starts.ensures in
     let given : AreMarksOf c.as_slice.result.now c.as_slice-2.result.now c.in_ok-reached.reached.items = record { one_each = c.in_ok-reached.ensures.one_each; only = c.in_ok-reached.ensures.only; all = c.in_ok-reached.ensures.all } in
     let marks : AreMarksOf (member_rows w) (member_starts w) c.in_ok-reached.reached.items = subst (λ (l : List ℕ). AreMarksOf (member_rows w) l c.in_ok-reached.reached.items) f (subst (λ (n : List (List ℕ)). AreMarksOf n c.as_slice-2.result.now c.in_ok-reached.reached.items) e given) in
-    IfOk-weaker c.cleared_of.result (λ kept. kept.items ≡ cleared w w.sites c.as_slice-3.result.now) (λ kept. AreMarks w kept.items)
-    (λ kept g. marks_right w c.in_ok-reached.reached.items kept.items marks (g ∙ ap (cleared w w.sites) c.as_slice-3.ensures.value))
+    IfOk-weaker c.cleared_of.result (λ kept. kept.items ≡ cleared w w.candidates c.as_slice-3.result.now) (λ kept. AreMarks w kept.items)
+    (λ kept g. marks_right w c.in_ok-reached.reached.items kept.items marks (g ∙ ap (cleared w w.candidates) c.as_slice-3.ensures.value))
     c.cleared_of.ensures

@@ -7,5 +7,5 @@ use Rattle.jl_config.proofs.placed.placed_of.Given as goal
 abbrev pub invariant-loop-at : goal.invariant-loop-at
 invariant-loop-at l = record {
   rise : RisesBy placed_cmp l.placed.items;
-  finds : (q : List ℕ) → option_or (place_in q l.placed.items) (marked_place q l.at (drop l.at l.sites) (drop l.at l.marks)) ≡ marked_place q 0 l.sites l.marks;
+  finds : (q : List ℕ) → option_or (place_in q l.placed.items) (marked_place q l.at (drop l.at l.candidates) (drop l.at l.marks)) ≡ marked_place q 0 l.candidates l.marks;
 }

@@ -3,4 +3,4 @@ use Rattle.jl_config.specs.MemberRows.{provisions_from}
 use Rattle.jl_config.proofs.provisions.offers_of.Given as goal
 
 abbrev pub invariant-loop-at : goal.invariant-loop-at
-invariant-loop-at l = l.all.items ++ provisions_from l.scene l.at (drop l.at l.scene.sites) ≡ provisions_from l.scene 0 l.scene.sites
+invariant-loop-at l = l.all.items ++ provisions_from l.scene l.at (drop l.at l.scene.candidates) ≡ provisions_from l.scene 0 l.scene.candidates

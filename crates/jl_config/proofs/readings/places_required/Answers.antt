@@ -5,4 +5,4 @@ use Rattle.jl_config.proofs.readings.places_required.Goals as goal
 
 pub loop-entry-preserved : goal.loop-entry-preserved
 loop-entry-preserved c =
-    filter_map_step (λ (r : Requires). meant_place c.args.scene.now c.args.marks.now c.args.site.now r.name) _ c.loop-entry.entry-index c.entry-item.result c.loop-entry.places.items c.push_some.new.places.items c.loop-entry-test.true c.entry-item.is c.loop-entry.invariant (grown c.loop-entry.places.items c.place_meant.ensures c.in_ok-push_some.ensures)
+    filter_map_step (λ (r : Requires). meant_place c.args.scene.now c.args.marks.now c.args.candidate.now r.name) _ c.loop-entry.entry-index c.entry-item.result c.loop-entry.places.items c.push_some.new.places.items c.loop-entry-test.true c.entry-item.is c.loop-entry.invariant (grown c.loop-entry.places.items c.place_meant.ensures c.in_ok-push_some.ensures)

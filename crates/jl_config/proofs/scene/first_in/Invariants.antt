@@ -4,4 +4,4 @@ use Rattle.jl_config.specs.Tables.{first_of_places}
 use Rattle.jl_config.proofs.scene.first_in.Given as goal
 
 abbrev pub invariant-loop-place : goal.invariant-loop-place
-invariant-loop-place l = first_of_places (is_in l.config) l.sites (drop l.place-index l.places) ≡ first_of_places (is_in l.config) l.sites l.places
+invariant-loop-place l = first_of_places (is_in l.config) l.candidates (drop l.place-index l.places) ≡ first_of_places (is_in l.config) l.candidates l.places

@@ -11,8 +11,8 @@ pub returns : goal.returns
 returns c =
     let w = c.args.scene.now in
     let m = c.args.imports.now in
-    let s = c.index-sites-imports.result in
-    let at : slice_get w.sites m.reader ≡ Some s = item_here w.sites c.sites.result.now m.reader s c.sites.ensures (import_within w m c.requires) c.index-sites-imports.is in
+    let s = c.index-candidates-imports.result in
+    let at : slice_get w.candidates m.reader ≡ Some s = item_here w.candidates c.candidates.result.now m.reader s c.candidates.ensures (import_within w m c.requires) c.index-candidates-imports.is in
     let first : Adds c.args.unseen.now.items c.push_unseen_uses.new.unseen.items (Among (IsUnseen s m.exported) s.observed.declaration.uses) =
     subst (λ es. Adds c.args.unseen.now.items c.push_unseen_uses.new.unseen.items (Among (IsUnseen s es) s.observed.declaration.uses)) c.as_slice-exported.ensures c.in_ok-push_unseen_uses.ensures in
     let second : Adds c.push_unseen_uses.new.unseen.items c.push_unseen_provides.new.unseen.items (Among (IsUnseenProvided s m.exported) s.observed.declaration.provides) =

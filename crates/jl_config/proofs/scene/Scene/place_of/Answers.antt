@@ -3,24 +3,24 @@ use Rattle.std.specs.Cmp.Lexicographic.{pointwise}
 use Rattle.indexmap.specs.IndexMap.{get}
 use Rattle.jl_config.specs.Lineages.{is_named, is_in}
 use Rattle.jl_config.specs.Located.{Scene}
-use Rattle.jl_config.specs.Places.{place_of_site}
+use Rattle.jl_config.specs.Places.{place_of_candidate}
 use Rattle.jl_config.specs.Tables.{places_where, first_of_places}
-use Rattle.jl_config.proofs.PlaceTables.{site_found}
+use Rattle.jl_config.proofs.PlaceTables.{candidate_found}
 use Rattle.jl_config.proofs.scene.Scene.place_of.Goals as goal
 
 pub returns-in_err-places : goal.returns-in_err-places
 returns-in_err-places c =
     let name = c.args.name.now in
-    let sites = c.self.inside.sites.items in
+    let candidates = c.self.inside.candidates.items in
     let none : None ≡ get (pointwise nat_eq) c.self.inside.named name = c.in_err-places.ensures.value in
-    let places : [] ≡ places_where (is_named name) 0 sites = ap (λ (o : Option (List ℕ)). unwrap_or o []) none ∙ c.self.invariant.2 name in
-    c.from_residual.ensures ∙ site_found c.args.config name sites [] places ∙ ap (λ (w : Scene). place_of_site c.args.config name w.sites) c.self.view_is
+    let places : [] ≡ places_where (is_named name) 0 candidates = ap (λ (o : Option (List ℕ)). unwrap_or o []) none ∙ c.self.invariant.2 name in
+    c.from_residual.ensures ∙ candidate_found c.args.config name candidates [] places ∙ ap (λ (w : Scene). place_of_candidate c.args.config name w.candidates) c.self.view_is
 
 pub returns : goal.returns
 returns c =
     let name = c.args.name.now in
-    let sites = c.self.inside.sites.items in
+    let candidates = c.self.inside.candidates.items in
     let some : Some c.in_ok-places.places.now ≡ get (pointwise nat_eq) c.self.inside.named name = c.in_ok-places.ensures.value in
-    let places : c.in_ok-places.places.now ≡ places_where (is_named name) 0 sites = ap (λ (o : Option (List ℕ)). unwrap_or o []) some ∙ c.self.invariant.2 name in
+    let places : c.in_ok-places.places.now ≡ places_where (is_named name) 0 candidates = ap (λ (o : Option (List ℕ)). unwrap_or o []) some ∙ c.self.invariant.2 name in
     c.first_in.ensures ∙ ap₂ (first_of_places (is_in c.args.config)) c.as_slice.ensures.value c.as_slice-2.ensures
-    ∙ site_found c.args.config name sites c.in_ok-places.places.now places ∙ ap (λ (w : Scene). place_of_site c.args.config name w.sites) c.self.view_is
+    ∙ candidate_found c.args.config name candidates c.in_ok-places.places.now places ∙ ap (λ (w : Scene). place_of_candidate c.args.config name w.candidates) c.self.view_is
