@@ -22,6 +22,7 @@ pub mod ReadMarks
 pub mod RisingLists
 pub mod Unique
 pub mod Finds
+pub mod Visits
 pub mod ReadOrders
 pub mod Collects
 pub mod SameNames

@@ -7,6 +7,7 @@ pub mod Resolves
 pub mod Laws
 pub mod Places
 pub mod Lineages
+pub mod Walked
 pub mod Tables
 pub mod MemberRows
 pub mod Placed

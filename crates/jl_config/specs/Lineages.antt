@@ -6,7 +6,7 @@ use Rattle.jl_config.specs.declared.candidate.Candidate.{Candidate}
 use Rattle.jl_config.specs.declared.configuration.Read.{Read}
 use Rattle.jl_config.specs.Configurations.{Configuration}
 use Rattle.jl_logic.specs.Order.{is_text}
-use Rattle.jl_config.specs.Located.{candidates_of, candidate_name, is_numbered}
+use Rattle.jl_config.specs.Located.{candidates_of, candidate_name, is_numbered, configuration_of}
 
 -- the reads of a configuration, with its number
 abbrev pub reads_with : ConfigId → List Read → List (ConfigId × Read)
@@ -16,9 +16,17 @@ reads_with config rs = map (λ r. (config, r)) rs
 abbrev pub all_candidates : List Configuration → List Candidate
 all_candidates gs = flat_map (λ (g : Configuration). candidates_of g.id g.modules) gs
 
+-- the modules of the configurations with these numbers
+abbrev pub numbered_candidates : List Configuration → List ConfigId → List Candidate
+numbered_candidates known ns = all_candidates (map (configuration_of known) ns)
+
 -- the reads of configurations
 abbrev pub all_reads : List Configuration → List (ConfigId × Read)
 all_reads gs = flat_map (λ (g : Configuration). map (λ r. (g.id, r)) g.reads) gs
+
+-- the reads of the configurations with these numbers
+abbrev pub numbered_reads : List Configuration → List ConfigId → List (ConfigId × Read)
+numbered_reads known ns = all_reads (map (configuration_of known) ns)
 
 -- ---- reads and modules by their names
 

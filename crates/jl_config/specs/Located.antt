@@ -1,6 +1,6 @@
 -- What a resolution is asked, and where it finds the modules with a name (`Configuration.resolve`).
-use Rattle.std.specs.Prelude.{ℕ, zero, suc, ◌+◌, List, [], ◌∷◌, ◌++◌, length, map, Option, None, Some, Bool, ◌&&◌, ◌==◌, slice_index_or, if◌then◌else◌}
-use Rattle.std.specs.List.{flat_map}
+use Rattle.std.specs.Prelude.{ℕ, zero, suc, ◌+◌, List, [], ◌∷◌, ◌++◌, length, map, Option, None, Some, Bool, not, ◌&&◌, ◌==◌, nat_lt, slice_index_or, if◌then◌else◌}
+use Rattle.std.specs.List.{filter, flat_map}
 use Rattle.jl_prim.specs.declared.numbers.ConfigId.{ConfigId}
 use Rattle.jl_prim.specs.declared.declaration.Observed.{Observed}
 use Rattle.jl_logic.specs.Order.{is_text}
@@ -17,9 +17,13 @@ pub record Asked : Type 0 where
   pub roots : List (List ℕ)
   pub binds : Bool
 
+-- the number after those that are known
+abbrev pub next_id : List Configuration → ConfigId
+next_id known = record { 0 = length known + 1 }
+
 -- the number that the configuration gets
 abbrev pub id_of : Asked → ConfigId
-id_of q = record { 0 = length q.known + 1 }
+id_of q = next_id q.known
 
 -- ---- ancestors
 
@@ -31,15 +35,31 @@ empty_configuration = record { id = record { 0 = 0 }; parents = []; modules = []
 abbrev pub configuration_of : List Configuration → ConfigId → Configuration
 configuration_of known c = slice_index_or (empty_configuration ∷ known) c.0 empty_configuration
 
--- the parent, its parent, and so on, n of them at most
-unfoldable pub lineage : ℕ → List Configuration → List ConfigId → List Configuration
-lineage zero known ps = []
-lineage (suc n) known [] = []
-lineage (suc n) known (p ∷ ps) = configuration_of known p ∷ lineage n known (configuration_of known p).parents
+-- the same configuration
+abbrev pub is_numbered : ConfigId → ConfigId → Bool
+is_numbered a b = a.0 == b.0
 
--- The ancestors, the nearest first. Parents have lower numbers, so there are no more of them than known ones and the empty one.
+-- Of the parents of the configuration with a number those with lower numbers. A configuration is made after its parents, so these are all.
+abbrev pub parents_below : ConfigId → List ConfigId → List ConfigId
+parents_below c ps = filter (λ (p : ConfigId). nat_lt p.0 c.0) ps
+
+-- the first parent and all above it, the second parent and all above it, and so on, n generations of them
+unfoldable pub preorder : ℕ → List Configuration → List ConfigId → List ConfigId
+preorder zero known ps = []
+preorder (suc n) known ps = flat_map (λ (p : ConfigId). p ∷ preorder n known (parents_below p (configuration_of known p).parents)) ps
+
+-- each number once, at its first place
+abbrev pub each_once : List ConfigId → List ConfigId
+each_once [] = []
+each_once (p ∷ ps) = p ∷ filter (λ (q : ConfigId). not (is_numbered p q)) (each_once ps)
+
+-- the numbers of the ancestors of the next configuration; none of its parents has more generations above it than its number
+abbrev pub ancestor_numbers : List Configuration → List ConfigId → List ConfigId
+ancestor_numbers known ps = each_once (preorder (length known + 1) known (parents_below (next_id known) ps))
+
+-- the ancestors: the first parent, its ancestors, the second parent, its ancestors, and so on, each once
 abbrev pub ancestors : Asked → List Configuration
-ancestors q = lineage (length q.known + 1) q.known q.parents
+ancestors q = map (configuration_of q.known) (ancestor_numbers q.known q.parents)
 
 -- ---- what is in sight
 
@@ -55,7 +75,7 @@ pub record Scene : Type 0 where
 abbrev pub candidates_of : ConfigId → List Observed → List Candidate
 candidates_of id os = map (λ o. record { config = id; observed = o }) os
 
--- the before finder, the ancestors from the nearest on, the after finder
+-- the before finder, the ancestors from the first on, the after finder
 abbrev pub scene_of : Asked → Scene
 scene_of q = record {
   id = id_of q;
@@ -83,10 +103,6 @@ find_named name (s ∷ ss) = if is_text (candidate_name s) name then Some s else
 -- where a name is located
 abbrev pub located : Scene → List ℕ → Option Candidate
 located w name = find_named name w.candidates
-
--- the same configuration
-abbrev pub is_numbered : ConfigId → ConfigId → Bool
-is_numbered a b = a.0 == b.0
 
 -- The module is one that a finder observes. Others are an ancestor's.
 abbrev pub is_here : Scene → Candidate → Bool

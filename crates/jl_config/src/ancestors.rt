@@ -1,51 +1,50 @@
-//! The ancestors of a configuration: its parent, that one's parent, and so on.
+//! What the ancestors of a configuration have: its first parent, that one's ancestors, its second parent and
+//! its ancestors, and so on, each configuration once.
 
-ghost use Rattle.std.specs.Prelude.{◌≡◌, ◌≤◌, ◌+◌, ◌++◌, length, map, OnOk, MatchOption};
-ghost use Rattle.std.specs.List.{flat_map};
+ghost use Rattle.std.specs.Prelude.{◌≡◌, ◌≤◌, ◌++◌, [], ◌∷◌, length, OnOk};
 ghost use Rattle.jl_prim.specs.Limits.{most_modules};
-ghost use Rattle.jl_config.specs.Located.{empty_configuration, configuration_of, lineage, candidates_of};
-ghost use Rattle.jl_config.specs.Lineages.{reads_with, all_candidates, all_reads};
+ghost use Rattle.jl_config.specs.Located.{ancestor_numbers};
+ghost use Rattle.jl_config.specs.Lineages.{reads_with, numbered_candidates, numbered_reads};
 
 use crate::candidate::{Candidate, push_candidates};
 use crate::configuration::{Configuration, Read};
+use crate::walk::{ancestor_numbers, configuration_of};
 use jl_prim::{ConfigId, Copied, CopyEnd};
+use std::alloc::Global;
 
-/// Adds the modules of the ancestors, the nearest first, and what they read.
+/// Adds the modules of the ancestors, in order, and what they read.
 pub fn push_ancestors(
+    alloc: Global,
     candidates: &mut Vec<Candidate>,
     reads: &mut Vec<(ConfigId, Read)>,
     known: &[Configuration],
     parents: &[ConfigId],
 ) -> Result<(), CopyEnd>
     requires { length known.now ≤ most_modules }
-    ensures candidates { OnOk result (candidates.new.items ≡ candidates.old.items ++ all_candidates (lineage (length known.now + 1) known.now parents.now)) }
-    ensures reads { OnOk result (reads.new.items ≡ reads.old.items ++ all_reads (lineage (length known.now + 1) known.now parents.now)) }
+    ensures candidates { OnOk result (candidates.new.items ≡ candidates.old.items ++ numbered_candidates known.now (ancestor_numbers known.now parents.now)) }
+    ensures reads { OnOk result (reads.new.items ≡ reads.old.items ++ numbered_reads known.now (ancestor_numbers known.now parents.now)) }
 {
-    let mut next = parents;
-    let mut left = known.len() + 1;
-    while left > 0 {
-        let Some(parent) = next.first() else {
-            return Ok(());
-        };
-        let Some(ancestor) = configuration_of(known, *parent) else {
-            return Ok(());
-        };
-        push_candidates(candidates, ancestor.id(), ancestor.modules())?;
-        push_reads(reads, ancestor.id(), ancestor.reads())?;
-        next = ancestor.parents();
-        left -= 1;
+    let numbers = ancestor_numbers(alloc, known, parents)?;
+    for number in &numbers {
+        push_ancestor(candidates, reads, known, *number)?;
     }
     Ok(())
 }
 
-/// The configuration with a number, but for the empty one.
-fn configuration_of(known: &[Configuration], id: ConfigId) -> Option<&Configuration>
-    ensures { MatchOption result (configuration_of known.now id ≡ empty_configuration) (λ g. g.now ≡ configuration_of known.now id) }
+fn push_ancestor(
+    candidates: &mut Vec<Candidate>,
+    reads: &mut Vec<(ConfigId, Read)>,
+    known: &[Configuration],
+    number: ConfigId,
+) -> Result<(), CopyEnd>
+    ensures candidates { OnOk result (candidates.new.items ≡ candidates.old.items ++ numbered_candidates known.now (number ∷ [])) }
+    ensures reads { OnOk result (reads.new.items ≡ reads.old.items ++ numbered_reads known.now (number ∷ [])) }
 {
-    if id.0 == 0 {
-        return None;
-    }
-    known.get(id.0 as usize - 1)
+    let Some(ancestor) = configuration_of(known, number) else {
+        return Ok(());
+    };
+    push_candidates(candidates, ancestor.id(), ancestor.modules())?;
+    push_reads(reads, ancestor.id(), ancestor.reads())
 }
 
 fn push_reads(

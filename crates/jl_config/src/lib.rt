@@ -22,6 +22,7 @@ mod scene;
 mod services;
 mod sorted;
 mod tables;
+mod walk;
 
 pub use candidate::Candidate;
 pub use configuration::{Configuration, Read};

@@ -42,7 +42,6 @@ pub fn resolve(
     bind: bool,
 ) -> Result<Configuration, ResolveFault>
     requires few_known { length known.now ≤ most_modules }
-    requires one_parent { length parents.now ≤ 1 }
     ensures resolves { Resolves (asked known.now before.now.modules parents.now after.now.modules roots.now bind) result }
     // Each module ends a justified list.
     ensures justified { IfOk result (λ g. AreJustified (asked known.now before.now.modules parents.now after.now.modules roots.now bind) g) }

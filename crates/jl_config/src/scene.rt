@@ -66,14 +66,13 @@ impl Scene {
         bind: bool,
     ) -> Result<Scene, CopyEnd>
         requires few_known { length known.now ≤ most_modules }
-        requires one_parent { length parents.now ≤ 1 }
         ensures { IfOk result (λ w. w ≡ scene_of (asked known.now before.now.modules parents.now after.now.modules roots.now bind)) }
     {
         let id = ConfigId(known.len() as u32 + 1);
         let mut candidates = Vec::new(alloc);
         let mut reads = Vec::new(alloc);
         push_candidates(&mut candidates, id, before.modules.as_slice())?;
-        push_ancestors(&mut candidates, &mut reads, known, parents)?;
+        push_ancestors(alloc, &mut candidates, &mut reads, known, parents)?;
         push_candidates(&mut candidates, id, after.modules.as_slice())?;
         let places = first_places(alloc, candidates.as_slice())?;
         let readers = places_by_reader(alloc, reads.as_slice())?;
