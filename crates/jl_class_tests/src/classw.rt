@@ -30,7 +30,7 @@ fn named(alloc: Global, text: &str) -> Result<Name, Fail>
 }
 
 /// A class by its major version, flags, name and superclass, empty for none, where it may begin so.
-fn begun(
+pub fn begun(
     alloc: Global,
     major: u16,
     flags: u16,
@@ -170,6 +170,16 @@ fn with_method(alloc: Global, b: &mut ClassBuilder, line: &str) -> Result<String
     }
 }
 
+/// Gives the attribute of a name, with a content in hexadecimal digits.
+fn with_attribute(alloc: Global, b: &mut ClassBuilder, line: &str) -> Result<String, Fail> {
+    let (name, digits) = line.split_once(' ').unwrap_or((line, ""));
+    let content = bytes_of_lines(alloc, &[digits])?;
+    if !b.may_have_attribute(name.as_bytes(), &content)? {
+        return refused(alloc);
+    }
+    told(alloc, b.attribute(name.as_bytes(), &content))
+}
+
 /// What came of entering something: its index, or the fault.
 fn told_index(alloc: Global, entered: Result<u16, WriteFault>) -> Result<String, Fail> {
     match entered {
@@ -208,18 +218,19 @@ fn entered(alloc: Global, b: &mut ClassBuilder, line: &str) -> Result<String, Fa
     }
 }
 
-/// What comes of a step: an interface, a field or a method that is added, or an entry.
+/// What comes of a step: an interface, a field, a method or an attribute that is added, or an entry.
 fn step(alloc: Global, b: &mut ClassBuilder, line: &str) -> Result<String, Fail> {
     match line.split_once(' ') {
         Some(("interface", name)) => with_interface(alloc, b, name),
         Some(("field", line)) => with_field(alloc, b, line),
         Some(("method", line)) => with_method(alloc, b, line),
+        Some(("attribute", line)) => with_attribute(alloc, b, line),
         _ => entered(alloc, b, line),
     }
 }
 
 /// Takes each step, and sees what comes of it.
-fn all_taken(alloc: Global, b: &mut ClassBuilder, rows: &[&str]) -> Result<(), Fail> {
+pub fn all_taken(alloc: Global, b: &mut ClassBuilder, rows: &[&str]) -> Result<(), Fail> {
     for row in rows {
         let (line, want) = row.split_once(" -> ").ok_or("a step")?;
         comes(row, step(alloc, b, line)?.as_str(), want)?;
@@ -374,11 +385,24 @@ fn handlers_are_counted_by_two_bytes(rt: HostRuntime) -> Result<(), Fail> {
     Ok(())
 }
 
+/// Also those that are no part of the class count, and take no entry.
+#[test]
+fn attributes_are_counted_by_two_bytes(rt: HostRuntime) -> Result<(), Fail> {
+    let alloc = rt.alloc();
+    let mut b = smallest(alloc)?;
+    for _ in 0..65535 {
+        same(with_attribute(alloc, &mut b, "Note 00")?.as_str(), "added")?;
+    }
+    all_taken(alloc, &mut b, &["attribute Note 00 -> TooMany(attributes)"])?;
+    assert_eq!(rt; b.finish()?.pool().entries().len(), 5);
+    Ok(())
+}
+
 /// A class takes two entries, so that the 32,765 of this loop fill the pool.
 #[test]
 fn entries_are_counted_by_two_bytes(rt: HostRuntime) -> Result<(), Fail> {
     let alloc = rt.alloc();
-    let mut b = smallest(alloc)?;
+    let mut b = begun(alloc, 61, 0x21, "p/A", "java/lang/Object")?.ok_or("refused")?;
     for n in 0..32765u16 {
         entered(alloc, &mut b, format!(in alloc; "class C{n}")?.as_str())?;
     }
@@ -386,6 +410,8 @@ fn entries_are_counted_by_two_bytes(rt: HostRuntime) -> Result<(), Fail> {
         "int 7 -> TooMany(pool)",
         "field 1 x I -> TooMany(pool)",
         "interface p/I -> TooMany(pool)",
+        "attribute NestHost 0002 -> TooMany(pool)",
+        "attribute Note 00 -> added",
         "class C0 -> 6",
         "class C32764 -> 65534",
         "interface C1 -> added",

@@ -1,8 +1,8 @@
 //! Tests of jl_class and jl_classw on class files of the versions 55 to 61: nests, records and permitted subclasses.
 
 use crate::class::{SMALLEST, all_come};
-use crate::classw::is_read_so;
-use jl_class::read_class;
+use crate::classw::{all_taken, begun, is_read_so};
+use jl_class::{ClassDecl, read_class};
 use jl_classw::write_class;
 use jl_making::{bytes_of_lines, edited_in, same};
 use std::alloc::Global;
@@ -166,6 +166,101 @@ fn nests_are_written(rt: HostRuntime) -> Result<(), Fail> {
         let written = write_class(alloc, &class)?;
         assert_eq!(rt; written.len(), length, "{edits}");
         assert!(rt; is_read_so(alloc, &written, &class)?, "{edits}");
+    }
+    Ok(())
+}
+
+/// The class `p/A` of this version and these flags, which extends `java/lang/Object`, after these steps: it is
+/// written, and read as the same class.
+fn given(alloc: Global, major: u16, flags: u16, steps: &[&str]) -> Result<ClassDecl, Fail> {
+    let mut b = begun(alloc, major, flags, "p/A", "java/lang/Object")?.ok_or("refused")?;
+    all_taken(alloc, &mut b, steps)?;
+    let class = b.finish()?;
+    let written = write_class(alloc, &class)?;
+    if !is_read_so(alloc, &written, &class)? {
+        return Err(Fail::new("not read so"));
+    }
+    Ok(read_class(alloc, &written)?)
+}
+
+/// The host, the members and whom a class permits, and how many entries it has: five at first.
+fn declared(alloc: Global, class: &ClassDecl) -> Result<String, Fail> {
+    let permits = class.permits().map(|names| names.as_slice());
+    let (host, members) = (class.nest_host(), class.nest_members());
+    let count = class.pool().entries().len();
+    Ok(format!(in alloc; "{host:?} {members:?} {permits:?} {count}")?)
+}
+
+/// Major version, flags, and steps by which a class is made, with what it declares then.
+#[test]
+fn attributes_are_given(rt: HostRuntime) -> Result<(), Fail> {
+    let alloc = rt.alloc();
+    let rows: [(u16, u16, &[&str], &str); 6] = [
+        (
+            61,
+            0x421,
+            &[
+                "class p/B -> 6",
+                "attribute NestMembers 0002 0006 0002 -> added",
+                "attribute Record 0001 0001 0001 0000 -> added",
+                "attribute PermittedSubclasses 0001 0006 -> added",
+                "attribute Note -> added",
+                "attribute NestHost 0002 -> refused",
+                "attribute NestMembers 0000 -> refused",
+                "attribute PermittedSubclasses 0000 -> refused",
+            ],
+            "None [p/B, p/A] Some([p/B]) 10",
+        ),
+        (
+            55,
+            0x31,
+            &[
+                "attribute NestHost 0004 -> added",
+                "attribute NestHost 0004 -> refused",
+                "attribute PermittedSubclasses 00 -> added",
+            ],
+            "Some(java/lang/Object) [] None 6",
+        ),
+        // before their versions they are no part of the class
+        (
+            54,
+            0x21,
+            &["attribute NestHost 0002 -> added"],
+            "None [] None 5",
+        ),
+        (
+            60,
+            0x21,
+            &["attribute PermittedSubclasses 0000 -> added"],
+            "None [] None 5",
+        ),
+        (
+            61,
+            0x31,
+            &["attribute PermittedSubclasses 0000 -> refused"],
+            "None [] None 5",
+        ),
+        // contents of a wrong length or index
+        (
+            61,
+            0x21,
+            &[
+                "attribute NestHost 00 -> refused",
+                "attribute NestHost 000200 -> refused",
+                "attribute NestHost 0001 -> refused",
+                "attribute NestHost 0005 -> refused",
+                "attribute NestMembers -> refused",
+                "attribute NestMembers 0002 0002 -> refused",
+                "attribute NestMembers 0001 0002 00 -> refused",
+                "attribute PermittedSubclasses 0001 0003 -> refused",
+                "attribute PermittedSubclasses 0000 -> added",
+            ],
+            "None [] Some([]) 6",
+        ),
+    ];
+    for (major, flags, steps, want) in rows {
+        let class = given(alloc, major, flags, steps)?;
+        same(declared(alloc, &class)?.as_str(), want)?;
     }
     Ok(())
 }

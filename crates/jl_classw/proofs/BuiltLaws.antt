@@ -1,6 +1,6 @@
 -- What a call of the builder adds leaves a class for which a file can be written.
 use Rattle.std.proofs.Common.{◌≡◌, ℕ, zero, suc, ◌*◌, ◌<◌, ◌≤◌, Bool, true, false, ltb, List, [], ◌∷◌, ◌++◌, length, slice_get, Option, None, Some, Result, Ok, refl, sym, ap, ap₂, subst, ◌∙◌, arith, lit<}
-use Rattle.std.specs.Prelude.{◌⊎◌, ◌&&◌, IsUtf8, is_some, codes, map, IfSome}
+use Rattle.std.specs.Prelude.{◌&&◌, IsUtf8, is_some, codes, map, IfSome}
 use Rattle.std.specs.List.{flat_map}
 use Rattle.std.proofs.lemmas.List.{append-nil, length-append, length_push}
 use Rattle.std.specs.Str.{IsAscii}
@@ -14,6 +14,9 @@ use Rattle.jl_prim.specs.declared.declaration.Handler.{Handler}
 use Rattle.jl_names.specs.Names.{names_a_class, names_a_field}
 use Rattle.jl_names.specs.Text.{text_bytes}
 use Rattle.jl_names.specs.Utf16.{utf16}
+use Rattle.jl_optable.specs.declared.attributes.AttrForm.{AttrForm}
+use Rattle.jl_optable.specs.declared.attributes.AttrForm.TheVariants as forms
+use Rattle.jl_optable.specs.Attributes.{name_of}
 use Rattle.jl_pool.specs.declared.entry.Entry.{Entry}
 use Rattle.jl_pool.specs.declared.entry.Entry.TheVariants as entries
 use Rattle.jl_pool.specs.Builder.{IsShort}
@@ -393,6 +396,22 @@ ascii_frames : IsAscii (codes "StackMapTable")
 unfolding is_ascii
 ascii_frames = ascii_by (codes "StackMapTable") refl
 
+ascii_host : IsAscii (codes "NestHost")
+unfolding is_ascii
+ascii_host = ascii_by (codes "NestHost") refl
+
+ascii_members : IsAscii (codes "NestMembers")
+unfolding is_ascii
+ascii_members = ascii_by (codes "NestMembers") refl
+
+ascii_record : IsAscii (codes "Record")
+unfolding is_ascii
+ascii_record = ascii_by (codes "Record") refl
+
+ascii_permits : IsAscii (codes "PermittedSubclasses")
+unfolding is_ascii
+ascii_permits = ascii_by (codes "PermittedSubclasses") refl
+
 pub utf8_constant : IsUtf8 (codes "ConstantValue")
 utf8_constant = IsUtf8-from_ascii (codes "ConstantValue") ascii_constant
 
@@ -414,12 +433,30 @@ short_code = ascii_short (codes "Code") (codes "Code") ascii_code refl (lit< tt)
 pub short_frames : IsShort (codes "StackMapTable")
 short_frames = ascii_short (codes "StackMapTable") (codes "StackMapTable") ascii_frames refl (lit< tt)
 
+pub utf8_form : (form : AttrForm) → IsUtf8 (name_of form)
+utf8_form forms.ConstantIndex = utf8_constant
+utf8_form forms.CodeBody = utf8_code
+utf8_form forms.Frames = utf8_frames
+utf8_form forms.Host = IsUtf8-from_ascii (codes "NestHost") ascii_host
+utf8_form forms.Members = IsUtf8-from_ascii (codes "NestMembers") ascii_members
+utf8_form forms.Components = IsUtf8-from_ascii (codes "Record") ascii_record
+utf8_form forms.Permits = IsUtf8-from_ascii (codes "PermittedSubclasses") ascii_permits
+
+pub short_form : (form : AttrForm) → IsShort (name_of form)
+short_form forms.ConstantIndex = short_constant
+short_form forms.CodeBody = short_code
+short_form forms.Frames = short_frames
+short_form forms.Host = ascii_short (codes "NestHost") (codes "NestHost") ascii_host refl (lit< tt)
+short_form forms.Members = ascii_short (codes "NestMembers") (codes "NestMembers") ascii_members refl (lit< tt)
+short_form forms.Components = ascii_short (codes "Record") (codes "Record") ascii_record refl (lit< tt)
+short_form forms.Permits = ascii_short (codes "PermittedSubclasses") (codes "PermittedSubclasses") ascii_permits refl (lit< tt)
+
 -- ---- what a call leaves
 
 abbrev pub Kept : Class → Type 0
 Kept c = (length c.pool < 65536) × IsBuilt c
 
-kept : (c : Class) → IsBuilt c → Kept c
+pub kept : (c : Class) → IsBuilt c → Kept c
 kept c b = (few_of c.pool b.pool, b)
 
 -- the pool that was given, and nothing behind it
@@ -479,22 +516,23 @@ method_kept c one other third_front new first second third more flags row_name r
     let built = method_built c flags name desc o (c.pool ++ first) (c.pool ++ second) more b utf8_code short_code utf8_frames short_frames small right right_name right_desc has fresh utf8 short.0 utf8_desc short.1 few counted numbers room named described coded in
     kept (record c { methods = rows; pool = more }) (subst (λ (l : List MethodDecl). IsBuilt (record c { methods = l; pool = more })) listed built)
 
-pub class_kept : (start front other new first second more : List Entry) (major flags : ℕ) (row_name name : List ℕ) (row_super super_name : Option (List ℕ)) (interfaces : List (List ℕ)) (fields : List FieldDecl) (methods : List MethodDecl) (i j : ℕ)
+pub class_kept : (start front other new first second more : List Entry) (major flags : ℕ) (row_name name : List ℕ) (row_super super_name : Option (List ℕ)) (interfaces : List (List ℕ)) (fields : List FieldDecl) (methods : List MethodDecl) (members : List (List ℕ)) (i j : ℕ)
     → is_version major 0 ≡ true → flags < 65536 → are_class_flags flags ≡ true → names_a_class name ≡ true → IsUtf8 name → IsShort name → IsSuper super_name → IfSome super_name IsUtf8 → may_extend flags name super_name ≡ true
     → start ≡ entries.Unused ∷ [] → front ≡ start → other ≡ start → new ≡ [] → class_entered (front ++ new) name ≡ Ok (front ++ first, i) → super_entered (other ++ first) super_name ≡ Ok (other ++ second, j)
-    → row_name ≡ name → row_super ≡ super_name → interfaces ≡ [] → fields ≡ [] → methods ≡ [] → more ≡ start ++ second
-    → Kept (record { major = major; minor = 0; flags = flags; name = row_name; super_name = row_super; interfaces = interfaces; fields = fields; methods = methods; nest_host = None; nest_members = []; permits = None; pool = more })
-class_kept start front other new first second more major flags row_name name row_super super_name interfaces fields methods i j version small right right_name utf8 short super utf8_super extends begins e f n h k same_name same_super no_interfaces no_fields no_methods more_is =
+    → row_name ≡ name → row_super ≡ super_name → interfaces ≡ [] → fields ≡ [] → methods ≡ [] → members ≡ [] → more ≡ start ++ second
+    → Kept (record { major = major; minor = 0; flags = flags; name = row_name; super_name = row_super; interfaces = interfaces; fields = fields; methods = methods; nest_host = None; nest_members = members; permits = None; pool = more })
+class_kept start front other new first second more major flags row_name name row_super super_name interfaces fields methods members i j version small right right_name utf8 short super utf8_super extends begins e f n h k same_name same_super no_interfaces no_fields no_methods no_members more_is =
     let front_is : front ≡ entries.Unused ∷ [] = e ∙ begins in
     let other_is : other ≡ entries.Unused ∷ [] = f ∙ begins in
     let pool_is : more ≡ (entries.Unused ∷ []) ++ second = more_is ∙ ap (λ (l : List Entry). l ++ second) begins in
     let this : class_entered (entries.Unused ∷ []) name ≡ Ok ((entries.Unused ∷ []) ++ first, i) = sym (given (λ (l : List Entry). class_entered l name) (entries.Unused ∷ []) front new front_is n) ∙ (h ∙ ap (λ (l : List Entry). Ok (l ++ first, i)) front_is) in
     let above : super_entered ((entries.Unused ∷ []) ++ first) super_name ≡ Ok (more, j) = subst (λ (l : List Entry). super_entered (l ++ first) super_name ≡ Ok (l ++ second, j)) other_is k ∙ ap (λ (l : List Entry). Ok (l, j)) (sym pool_is) in
     let built = class_built major flags name super_name ((entries.Unused ∷ []) ++ first) more i j version small right right_name utf8 short super utf8_super extends this above in
-    let made : List ℕ → Option (List ℕ) → List (List ℕ) → List FieldDecl → List MethodDecl → Class = λ n s is fs ms. record { major = major; minor = 0; flags = flags; name = n; super_name = s; interfaces = is; fields = fs; methods = ms; nest_host = None; nest_members = []; permits = None; pool = more } in
-    let named_so = subst (λ (n : List ℕ). IsBuilt (made n super_name [] [] [])) (sym same_name) built in
-    let extended = subst (λ (s : Option (List ℕ)). IsBuilt (made row_name s [] [] [])) (sym same_super) named_so in
-    let listed = subst (λ (is : List (List ℕ)). IsBuilt (made row_name row_super is [] [])) (sym no_interfaces) extended in
-    let fielded = subst (λ (fs : List FieldDecl). IsBuilt (made row_name row_super interfaces fs [])) (sym no_fields) listed in
-    let whole = subst (λ (ms : List MethodDecl). IsBuilt (made row_name row_super interfaces fields ms)) (sym no_methods) fielded in
-    kept (made row_name row_super interfaces fields methods) whole
+    let made : List ℕ → Option (List ℕ) → List (List ℕ) → List FieldDecl → List MethodDecl → List (List ℕ) → Class = λ n s is fs ms ns. record { major = major; minor = 0; flags = flags; name = n; super_name = s; interfaces = is; fields = fs; methods = ms; nest_host = None; nest_members = ns; permits = None; pool = more } in
+    let named_so = subst (λ (n : List ℕ). IsBuilt (made n super_name [] [] [] [])) (sym same_name) built in
+    let extended = subst (λ (s : Option (List ℕ)). IsBuilt (made row_name s [] [] [] [])) (sym same_super) named_so in
+    let listed = subst (λ (is : List (List ℕ)). IsBuilt (made row_name row_super is [] [] [])) (sym no_interfaces) extended in
+    let fielded = subst (λ (fs : List FieldDecl). IsBuilt (made row_name row_super interfaces fs [] [])) (sym no_fields) listed in
+    let whole = subst (λ (ms : List MethodDecl). IsBuilt (made row_name row_super interfaces fields ms [])) (sym no_methods) fielded in
+    let alone = subst (λ (ns : List (List ℕ)). IsBuilt (made row_name row_super interfaces fields methods ns)) (sym no_members) whole in
+    kept (made row_name row_super interfaces fields methods members) alone

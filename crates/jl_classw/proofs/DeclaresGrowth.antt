@@ -134,10 +134,10 @@ module _ (a b : List Entry) (g : Grown a b) where
 
   -- ---- attributes of a class
 
-  host_still : (c name : List ℕ) → IsHost a c name → IsHost b c name
+  pub host_still : (c name : List ℕ) → IsHost a c name → IsHost b c name
   host_still c name h = (h.0, h.1, name_still h.0 name h.2)
 
-  classes_still : (c : List ℕ) (names : List (List ℕ)) → AreClasses a c names → AreClasses b c names
+  pub classes_still : (c : List ℕ) (names : List (List ℕ)) → AreClasses a c names → AreClasses b c names
   classes_still c names r = record { indices = r.indices; is = r.is; few = r.few; each = match_as {R = HasName (class_named a)} {S = HasName (class_named b)} name_still r.indices names r.each }
 
   component_still : (c : Component) → IsComponent a c → IsComponent b c

@@ -9,6 +9,7 @@ pub mod DeclaresGrowth
 pub mod EnteredLaws
 pub mod DistinctLaws
 pub mod BuiltLaws
+pub mod NestsGiven
 pub mod UnitLaws
 pub mod KeyLaws
 pub mod HintLaws

@@ -1,11 +1,10 @@
 -- The attributes of a class that are written declare what they are written for.
 use Rattle.std.proofs.Common.{◌≡◌, ℕ, ◌+◌, ◌*◌, ◌<◌, ◌≤◌, Bool, true, false, List, [], ◌∷◌, ◌++◌, map, length, Option, None, Some, refl, sym, ap, ap₂, subst, ◌∙◌, append_assoc, Result, Ok, Err, arith, inl, inr}
-use Rattle.std.specs.Prelude.{⊤, OnOk, is_some, ◌&&◌}
+use Rattle.std.specs.Prelude.{OnOk, is_some, ◌&&◌}
 use Rattle.std.specs.List.{flat_map, AllByRecursion}
 use Rattle.std.proofs.lemmas.Bool.{cases_Bool}
 use Rattle.std.proofs.lemmas.List.{append-nil, length-append, length-map}
-use Rattle.std.proofs.lemmas.List.Concat.{flat_map-cons, flat_map-append}
-use Rattle.jl_logic.specs.Lists.{Match}
+use Rattle.std.proofs.lemmas.List.Concat.{flat_map-cons}
 use Rattle.jl_logic.specs.Order.{is_text}
 use Rattle.jl_reading.specs.Reading.{two, four, counted}
 use Rattle.jl_optable.specs.declared.attributes.AttrForm.{AttrForm}
@@ -15,12 +14,13 @@ use Rattle.jl_pool.specs.declared.entry.Entry.{Entry}
 use Rattle.jl_pool.specs.Pool.{text_of, class_named}
 use Rattle.jl_classfile.specs.Spelling.{Attribute, AttributeFits, AreAttributes, AtMostOne, HasName, attribute_bytes, contents, is_some_that}
 use Rattle.jl_class.specs.Classes.{Class}
-use Rattle.jl_class.specs.Spelling.{HaveNests, IsHost, AreClasses, IsRecord, names_form, or_nothing}
+use Rattle.jl_class.specs.Meaning.{is_final}
+use Rattle.jl_class.specs.Spelling.{HaveNests, IsHost, AreClasses, names_form, or_nothing}
 use Rattle.jl_class.proofs.NestLaws.{form_named, form_other}
 use Rattle.jl_classw.proofs.BytesLaws.{counted_mapped}
 use Rattle.jl_classw.specs.Writing.{attribute_index, named_attribute, optional, class_index, host_attribute, classes_attribute, nest_attributes, unless_none, IsShortList}
 use Rattle.jl_classw.proofs.IndexLaws.{attribute_place, class_place}
-use Rattle.jl_classw.proofs.PartLaws.{Named, one_named, some_named, kept_contents, passed_contents, match_written, match_length}
+use Rattle.jl_classw.proofs.PartLaws.{one_named, some_named, kept_contents, passed_contents, match_written, match_length}
 
 -- ---- lists
 
@@ -47,26 +47,26 @@ abbrev contents_as : {V : Type 0} → (V → List ℕ) → Option V → List (Li
 contents_as content None = []
 contents_as content (Some v) = content v ∷ []
 
--- where something is there, it is the meaning of the one content
-abbrev There : {V : Type 0} → (List ℕ → V → Type 0) → List (List ℕ) → Option V → Type 0
-There {V} M cs o = (v : V) → o ≡ Some v → (c : List ℕ) × (cs ≡ c ∷ []) × M c v
+-- where something is there, it is the meaning of the first content
+abbrev pub There : {V : Type 0} → (List ℕ → V → Type 0) → List (List ℕ) → Option V → Type 0
+There {V} M cs o = (v : V) → o ≡ Some v → (c : List ℕ) × (rest : List (List ℕ)) × (cs ≡ c ∷ rest) × M c v
 
-there_of : {V : Type 0} (M : List ℕ → V → Type 0) (cs : List (List ℕ)) (o : Option V) → AtMostOne M cs o → There M cs o
+pub there_of : {V : Type 0} (M : List ℕ → V → Type 0) (cs : List (List ℕ)) (o : Option V) → AtMostOne M cs o → There M cs o
 there_of M cs None one v e = absurd cc
-there_of M cs (Some w) one v e = let same : w ≡ v = cc in (one.0, one.1, subst (λ k. M one.0 k) same one.2)
+there_of M cs (Some w) one v e = let same : w ≡ v = cc in (one.0, [], one.1, subst (λ k. M one.0 k) same one.2)
 
 -- members that are none are not written
-members_there : (M : List ℕ → List (List ℕ) → Type 0) (cs : List (List ℕ)) (members : Option (List (List ℕ))) (names : List (List ℕ)) → names ≡ or_nothing members → AtMostOne M cs members → There M cs (unless_none names)
+pub members_there : (M : List ℕ → List (List ℕ) → Type 0) (cs : List (List ℕ)) (members : Option (List (List ℕ))) (names : List (List ℕ)) → names ≡ or_nothing members → AtMostOne M cs members → There M cs (unless_none names)
 members_there M cs members [] e one v f = absurd cc
 members_there M cs None (n ∷ names) e one v f = absurd cc
-members_there M cs (Some list) (n ∷ names) e one v f = let same : n ∷ names ≡ v = cc in (one.0, one.1, subst (λ k. M one.0 k) (sym e ∙ same) one.2)
+members_there M cs (Some list) (n ∷ names) e one v f = let same : n ∷ names ≡ v = cc in (one.0, [], one.1, subst (λ k. M one.0 k) (sym e ∙ same) one.2)
 
 back_list : {A : Type 0} (xs : List A) → xs ≡ or_nothing (unless_none xs)
 back_list [] = refl
 back_list (x ∷ xs) = refl
 
 -- no more is there than before
-fewer : (host : Option (List ℕ)) (members : Option (List (List ℕ))) (names : List (List ℕ)) → names ≡ or_nothing members → (is_some host && is_some members) ≡ false → (is_some host && is_some (unless_none names)) ≡ false
+pub fewer : (host : Option (List ℕ)) (members : Option (List (List ℕ))) (names : List (List ℕ)) → names ≡ or_nothing members → (is_some host && is_some members) ≡ false → (is_some host && is_some (unless_none names)) ≡ false
 fewer None members names e a = refl
 fewer (Some h) members [] e a = refl
 fewer (Some h) None (n ∷ names) e a = absurd cc
@@ -86,7 +86,7 @@ module _ (pool : List Entry) (few : length pool < 65536) (major : ℕ) where
   part_by form M content attributes fit None short one = record { fit = tt; few_written = omega arith; same = refl; others = λ k differ. refl }
   part_by form M content attributes fit (Some v) short there_one =
       let one = there_one v refl in
-      let n = one_named pool (names_form major form) attributes one.0 [] fit one.1 in
+      let n = one_named pool (names_form major form) attributes one.0 one.1 fit one.2 in
       let there = some_named (names_form major form) (name_of form) (text_of pool n.0.index) (form_named major form) n.1.named in
       let place = attribute_place pool few (name_of form) n.0.index there in
       let read : names_form major form (name_of form) ≡ true = ap (is_some_that (names_form major form)) (sym there) ∙ n.1.named in
@@ -100,12 +100,12 @@ module _ (pool : List Entry) (few : length pool < 65536) (major : ℕ) where
 
   host_again : (cs : List (List ℕ)) (o : Option (List ℕ)) → There (IsHost pool) cs o → AtMostOne (IsHost pool) (contents_as (λ name. two (class_index pool name)) o) o
   host_again cs None one = refl
-  host_again cs (Some name) one = let h : IsHost pool (one name refl).0 name = (one name refl).2 in (two (class_index pool name), refl, (class_index pool name, refl, class_place pool few name h.0 h.2))
+  host_again cs (Some name) one = let h : IsHost pool (one name refl).0 name = (one name refl).3 in (two (class_index pool name), refl, (class_index pool name, refl, class_place pool few name h.0 h.2))
 
   classes_again : (cs : List (List ℕ)) (o : Option (List (List ℕ))) → There (AreClasses pool) cs o → AtMostOne (AreClasses pool) (contents_as (λ names. counted two (map (class_index pool) names)) o) o
   classes_again cs None one = refl
   classes_again cs (Some names) one =
-      let a : AreClasses pool (one names refl).0 names = (one names refl).2 in
+      let a : AreClasses pool (one names refl).0 names = (one names refl).3 in
       let l = length-map names (class_index pool) in
       let m = match_length (HasName (class_named pool)) a.indices names a.each in
       let few_indices = a.few in (
@@ -121,7 +121,7 @@ module _ (pool : List Entry) (few : length pool < 65536) (major : ℕ) where
 
   classes_short : (cs : List (List ℕ)) (o : Option (List (List ℕ))) → There (AreClasses pool) cs o → (names : List (List ℕ)) → o ≡ Some names → length names < 65536
   classes_short cs o one names e =
-      let a : AreClasses pool (one names e).0 names = (one names e).2 in
+      let a : AreClasses pool (one names e).0 names = (one names e).3 in
       let m = match_length (HasName (class_named pool)) a.indices names a.each in
       let few_indices = a.few in
       omega (arith, m, few_indices)
@@ -132,20 +132,23 @@ module _ (pool : List Entry) (few : length pool < 65536) (major : ℕ) where
       let m = counted_length (map (class_index pool) names) in
       omega (arith, l, m, few_names)
 
-pub nests_written : (c : Class) (attributes : List Attribute) → length c.pool < 65536 → AreAttributes c.pool attributes → HaveNests c attributes → AreAttributes c.pool (nest_attributes c.pool c) × HaveNests c (nest_attributes c.pool c)
-nests_written c attributes few are h =
+-- What attributes say of a class is written for it, where each part is the meaning of the first of its kind.
+pub nests_from : (c : Class) (attributes : List Attribute) → length c.pool < 65536 → AllByRecursion (AttributeFits c.pool) attributes
+    → There (IsHost c.pool) (contents c.pool (names_form c.major forms.Host) attributes) c.nest_host
+    → There (AreClasses c.pool) (contents c.pool (names_form c.major forms.Members) attributes) (unless_none c.nest_members)
+    → There (AreClasses c.pool) (contents c.pool (names_form c.major forms.Permits) attributes) c.permits
+    → (is_some c.nest_host && is_some (unless_none c.nest_members)) ≡ false → (is_some c.permits && is_final c.flags) ≡ false
+    → AreAttributes c.pool (nest_attributes c.pool c) × HaveNests c (nest_attributes c.pool c)
+nests_from c attributes few fit host_there listed_there permits_there apart extended =
     let pool = c.pool in
     let major = c.major in
     let listing : List (List ℕ) → List ℕ = λ names. counted two (map (class_index pool) names) in
-    let host_there = there_of (IsHost pool) (contents pool (names_form major forms.Host) attributes) c.nest_host h.host in
-    let listed_there = members_there (AreClasses pool) (contents pool (names_form major forms.Members) attributes) h.members c.nest_members h.members_are h.listed in
-    let permits_there = there_of (AreClasses pool) (contents pool (names_form major forms.Permits) attributes) c.permits h.permits in
     let a = optional (host_attribute pool) c.nest_host in
     let b = optional (classes_attribute pool forms.Members) (unless_none c.nest_members) in
     let d = optional (classes_attribute pool forms.Permits) c.permits in
-    let pa = part_by pool few major forms.Host (IsHost pool) (λ name. two (class_index pool name)) attributes are.fit c.nest_host (λ v e. omega arith) host_there in
-    let pb = part_by pool few major forms.Members (AreClasses pool) listing attributes are.fit (unless_none c.nest_members) (λ v e. written_short pool few major v (classes_short pool few major _ (unless_none c.nest_members) listed_there v e)) listed_there in
-    let pd = part_by pool few major forms.Permits (AreClasses pool) listing attributes are.fit c.permits (λ v e. written_short pool few major v (classes_short pool few major _ c.permits permits_there v e)) permits_there in
+    let pa = part_by pool few major forms.Host (IsHost pool) (λ name. two (class_index pool name)) attributes fit c.nest_host (λ v e. omega arith) host_there in
+    let pb = part_by pool few major forms.Members (AreClasses pool) listing attributes fit (unless_none c.nest_members) (λ v e. written_short pool few major v (classes_short pool few major _ (unless_none c.nest_members) listed_there v e)) listed_there in
+    let pd = part_by pool few major forms.Permits (AreClasses pool) listing attributes fit c.permits (λ v e. written_short pool few major v (classes_short pool few major _ c.permits permits_there v e)) permits_there in
     let split : (k : AttrForm) → contents pool (names_form major k) (a ++ (b ++ d)) ≡ contents pool (names_form major k) a ++ (contents pool (names_form major k) b ++ contents pool (names_form major k) d) =
     λ k. contents_both pool (names_form major k) a (b ++ d) ∙ ap (λ (l : List (List ℕ)). contents pool (names_form major k) a ++ l) (contents_both pool (names_form major k) b d) in
     let first : contents pool (names_form major forms.Host) (a ++ (b ++ d)) ≡ contents_as (λ name. two (class_index pool name)) c.nest_host =
@@ -167,13 +170,21 @@ nests_written c attributes few are h =
         members = unless_none c.nest_members;
         listed = subst (λ cs. AtMostOne (AreClasses pool) cs (unless_none c.nest_members)) (sym second) (classes_again pool few major _ (unless_none c.nest_members) listed_there);
         members_are = back_list c.nest_members;
-        apart = fewer c.nest_host h.members c.nest_members h.members_are h.apart;
+        apart = apart;
         record_kept = None;
         components = none;
         permits = subst (λ cs. AtMostOne (AreClasses pool) cs c.permits) (sym third) (classes_again pool few major _ c.permits permits_there);
-        extended = h.extended;
+        extended = extended;
       },
     )
+
+pub nests_written : (c : Class) (attributes : List Attribute) → length c.pool < 65536 → AreAttributes c.pool attributes → HaveNests c attributes → AreAttributes c.pool (nest_attributes c.pool c) × HaveNests c (nest_attributes c.pool c)
+nests_written c attributes few are h =
+    nests_from c attributes few are.fit
+    (there_of (IsHost c.pool) (contents c.pool (names_form c.major forms.Host) attributes) c.nest_host h.host)
+    (members_there (AreClasses c.pool) (contents c.pool (names_form c.major forms.Members) attributes) h.members c.nest_members h.members_are h.listed)
+    (there_of (AreClasses c.pool) (contents c.pool (names_form c.major forms.Permits) attributes) c.permits h.permits)
+    (fewer c.nest_host h.members c.nest_members h.members_are h.apart) h.extended
 
 -- the lists of a class that some file declares fit their counts
 pub members_short : (c : Class) (attributes : List Attribute) → length c.pool < 65536 → HaveNests c attributes → length c.nest_members < 65536

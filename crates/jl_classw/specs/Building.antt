@@ -1,14 +1,21 @@
--- Making a class: what each call adds to it, or which table has no room for it (JVMS 4.1, 4.4, 4.5, 4.6).
-use Rattle.std.specs.Prelude.{ℕ, ◌+◌, nat_lt, List, [], ◌∷◌, ◌++◌, length, position, Option, None, Some, Result, Ok, Err, Bool, false, ◌&&◌, ◌==◌, codes, if◌then◌else◌}
+-- Making a class: what each call adds to it, or which table has no room for it (JVMS 4.1, 4.4 to 4.7).
+use Rattle.std.specs.Prelude.{ℕ, ◌+◌, nat_lt, List, [], ◌∷◌, ◌++◌, length, position, Option, None, Some, Result, Ok, Err, Bool, true, false, not, ◌&&◌, ◌==◌, codes, is_some, is_ok, if◌then◌else◌}
 use Rattle.std.specs.Int.{cast_unsigned, w32, w64}
 use Rattle.jl_logic.specs.Order.{is_text}
 use Rattle.jl_reading.specs.Reading.{◌>>=◌}
 use Rattle.jl_names.specs.Utf16.{utf16}
+use Rattle.jl_optable.specs.declared.attributes.AttrForm.{AttrForm}
+use Rattle.jl_optable.specs.declared.attributes.AttrForm.TheVariants as forms
+use Rattle.jl_optable.specs.declared.attributes.Site.TheVariants as sites
+use Rattle.jl_optable.specs.Attributes.{attribute_form, name_of}
 use Rattle.jl_pool.specs.declared.entry.Entry.{Entry}
 use Rattle.jl_pool.specs.declared.entry.Entry.TheVariants as entries
 use Rattle.jl_pool.specs.Pool.{is_wide}
 use Rattle.jl_class.specs.declared.member.CodeBytes.{CodeBytes}
+use Rattle.jl_class.specs.declared.fault.ClassFault.{ClassFault}
 use Rattle.jl_class.specs.Classes.{Class}
+use Rattle.jl_class.specs.Meaning.{is_final}
+use Rattle.jl_class.specs.Reading.{host_at, classes_at}
 use Rattle.jl_classw.specs.declared.fault.WriteFault.{WriteFault}
 use Rattle.jl_classw.specs.declared.fault.WriteFault.TheVariants as faults
 use Rattle.jl_classw.specs.declared.entry.Constant.{Constant}
@@ -136,36 +143,48 @@ code_entered pool (Some code) = some_code_entered pool code
 
 -- ---- the calls
 
+-- a class that is being made, and how many attributes it was given
+pub record Making : Type 0 where
+  pub class : Class
+  pub attributes : ℕ
+
+-- what a call makes of the class alone
+abbrev pub of_class : Making → Result Class WriteFault → Result Making WriteFault
+of_class b made = made >>= λ c. Ok (record b { class = c })
+
 -- a superclass, of which an empty name is none
 abbrev pub unless_empty : List ℕ → Option (List ℕ)
 unless_empty [] = None
 unless_empty (byte ∷ bytes) = Some (byte ∷ bytes)
 
 -- a class with these parts and no members, which has minor version 0
-unfoldable pub new_class : ℕ → ℕ → List ℕ → Option (List ℕ) → Result Class WriteFault
+unfoldable pub new_class : ℕ → ℕ → List ℕ → Option (List ℕ) → Result Making WriteFault
 new_class major flags name super_name = do
   this ← class_entered (entries.Unused ∷ []) name
   super ← super_entered this.0 super_name
   Ok (record {
-    major = major;
-    minor = 0;
-    flags = flags;
-    name = name;
-    super_name = super_name;
-    interfaces = [];
-    fields = [];
-    methods = [];
-    nest_host = None;
-    nest_members = [];
-    permits = None;
-    pool = super.0;
+    class = record {
+      major = major;
+      minor = 0;
+      flags = flags;
+      name = name;
+      super_name = super_name;
+      interfaces = [];
+      fields = [];
+      methods = [];
+      nest_host = None;
+      nest_members = [];
+      permits = None;
+      pool = super.0;
+    };
+    attributes = 0;
   })
 
 -- the class with an entry in its pool, and the index of the entry
-unfoldable pub with_entry : Class → NewEntry → Result (Class × ℕ) WriteFault
-with_entry c e = do
-  made ← new_entered c.pool e
-  Ok (record c { pool = made.0 }, made.1)
+unfoldable pub with_entry : Making → NewEntry → Result (Making × ℕ) WriteFault
+with_entry b e = do
+  made ← new_entered b.class.pool e
+  Ok (record b { class = record (b.class) { pool = made.0 } }, made.1)
 
 unfoldable pub with_interface : Class → List ℕ → Result Class WriteFault
 with_interface c name = if nat_lt 65534 (length c.interfaces) then too_many (codes "interfaces") else (do
@@ -190,3 +209,56 @@ with_method c flags name desc code = if nat_lt 65534 (length c.methods) then too
   described ← attribute_entered named desc
   coded ← code_entered described code
   Ok (record c { methods = c.methods ++ (record { flags = flags; name = name; desc = desc; code = code }) ∷ []; pool = coded }))
+
+-- ---- attributes of a class (JVMS 4.7.28 to 4.7.31)
+
+-- No nest is declared yet: neither its host nor members.
+abbrev pub has_no_nest : Class → Bool
+has_no_nest c = not (is_some c.nest_host) && length c.nest_members == 0
+
+-- A class that declares a host or members is given neither, and one whose subclasses are listed, or which is final, no list of them.
+abbrev pub may_declare : Class → AttrForm → Bool
+may_declare c forms.Host = has_no_nest c
+may_declare c forms.Members = has_no_nest c
+may_declare c forms.Permits = not (is_some c.permits) && not (is_final c.flags)
+may_declare c _ = true
+
+-- The class with what a content declares, whose indices are those of its pool. Nothing of the components of a record is kept.
+abbrev pub declaring : Class → AttrForm → List ℕ → Result Class ClassFault
+declaring c forms.Host content = host_at c.pool 0 content 0 >>= λ name. Ok (record c { nest_host = Some name })
+declaring c forms.Members content = classes_at c.pool 0 content 0 >>= λ names. Ok (record c { nest_members = names })
+declaring c forms.Permits content = classes_at c.pool 0 content 0 >>= λ names. Ok (record c { permits = Some names })
+declaring c _ content = Ok c
+
+abbrev pub may_have_form : Class → List ℕ → Option AttrForm → Bool
+may_have_form c content None = true
+may_have_form c content (Some form) = may_declare c form && is_ok (declaring c form content)
+
+-- The class may be given the attribute: one that is not read in a class of its version, or one that may stand there and whose content is right.
+abbrev pub may_be_given : Class → List ℕ → List ℕ → Bool
+may_be_given c name content = may_have_form c content (attribute_form sites.Class c.major name)
+
+abbrev pub or_same : Class → Result Class ClassFault → Class
+or_same c (Ok d) = d
+or_same c (Err f) = c
+
+-- the class with the name of an attribute in its pool
+abbrev pub with_name : Class → List ℕ → Result Class WriteFault
+with_name c name = attribute_entered c.pool name >>= λ named. Ok (record c { pool = named })
+
+-- the class with an attribute of a form, whose name is entered
+unfoldable pub with_form : Class → AttrForm → List ℕ → Result Class WriteFault
+with_form c form content = do
+  named ← attribute_entered c.pool (name_of form)
+  Ok (record (or_same c (declaring c form content)) { pool = named })
+
+-- an attribute that is not read in a class of its version is no part of the class
+abbrev pub with_read : Class → List ℕ → Option AttrForm → Result Class WriteFault
+with_read c content None = Ok c
+with_read c content (Some form) = with_form c form content
+
+-- Each attribute that is given counts, also one that is no part of the class.
+unfoldable pub with_attribute : Making → List ℕ → List ℕ → Result Making WriteFault
+with_attribute b name content = if nat_lt 65534 b.attributes then too_many (codes "attributes") else (do
+  given ← with_read b.class content (attribute_form sites.Class b.class.major name)
+  Ok (record { class = given; attributes = b.attributes + 1 }))

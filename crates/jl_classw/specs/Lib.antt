@@ -1,4 +1,5 @@
 pub mod Building
+pub mod Contents
 pub mod Built
 pub mod Faults
 pub mod Hints

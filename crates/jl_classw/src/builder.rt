@@ -1,5 +1,6 @@
 //! Making a class part by part.
 
+mod attributes;
 mod calls;
 
 ghost use Rattle.std.specs.Prelude.{◌≡◌, ◌<◌, ◌++◌, [], ◌∷◌, length, ℕ, List, false, is_some, map, OnOk, OnErr, IfOk, IsTrue, IsOkUnless, ◌⊎◌};
@@ -12,7 +13,7 @@ ghost use Rattle.jl_class.specs.Spelling.{IsClass};
 ghost use Rattle.jl_classfile.specs.Front.{is_version};
 ghost use Rattle.jl_classw.specs.Faults.{told};
 ghost use Rattle.jl_classw.specs.Built.{IsSuper, IsShortEntry, IsTagged, MayHave, IsSmall};
-ghost use Rattle.jl_classw.specs.Building.{new_class, with_entry, with_interface, with_field, with_method};
+ghost use Rattle.jl_classw.specs.Building.{new_class, of_class, with_entry, with_interface, with_field, with_method};
 
 use crate::entering::{enter_class, enter_new};
 use crate::entries::Entries;
@@ -26,11 +27,11 @@ use jl_prim::{Copied, Items, Name};
 use std::alloc::Global;
 use std::marker::Model;
 
-/// The most interfaces, fields and methods that a class has, each (JVMS 4.1).
+/// The most interfaces, fields, methods and attributes that a class has, each (JVMS 4.1).
 const MOST_ROWS: usize = 65535;
 
-/// A class that is being made, which contracts see as the class that it is so far. Its minor version is 0,
-/// and its pool has each entry once.
+/// A class that is being made, which contracts see as the class that it is so far and the count of its
+/// attributes. Its minor version is 0, and its pool has each entry once.
 #[derive(Drop)]
 pub struct ClassBuilder {
     alloc: Global,
@@ -41,19 +42,22 @@ pub struct ClassBuilder {
     interfaces: Vec<Name>,
     fields: MemberTable<FieldDecl>,
     methods: MemberTable<MethodDecl>,
+    nests: Nests,
+    /// How many attributes it was given, also those that are no part of it.
+    attributes: usize,
     entries: Entries,
 }
 
 impl Model for ClassBuilder {
-    ghost use Rattle.std.specs.Prelude.{◌<◌, length, None, []};
-    ghost use Rattle.jl_class.specs.Classes.{Class};
+    ghost use Rattle.std.specs.Prelude.{◌<◌, length};
     ghost use Rattle.jl_classw.specs.Built.{IsBuilt};
+    ghost use Rattle.jl_classw.specs.Building.{Making};
 
-    ghost Value = { Class };
+    ghost Value = { Making };
 
-    ghost view = { λ b. record { major = b.major; minor = 0; flags = b.flags; name = b.name; super_name = b.super_name; interfaces = b.interfaces.items; fields = b.fields; methods = b.methods; nest_host = None; nest_members = []; permits = None; pool = b.entries } };
+    ghost view = { λ b. record { class = record { major = b.major; minor = 0; flags = b.flags; name = b.name; super_name = b.super_name; interfaces = b.interfaces.items; fields = b.fields; methods = b.methods; nest_host = b.nests.host; nest_members = b.nests.members; permits = b.nests.permits; pool = b.entries }; attributes = b.attributes } };
 
-    ghost invariant = { λ b. (length b.entries < 65536) × IsBuilt (record { major = b.major; minor = 0; flags = b.flags; name = b.name; super_name = b.super_name; interfaces = b.interfaces.items; fields = b.fields; methods = b.methods; nest_host = None; nest_members = []; permits = None; pool = b.entries }) };
+    ghost invariant = { λ b. (length b.entries < 65536) × IsBuilt (record { major = b.major; minor = 0; flags = b.flags; name = b.name; super_name = b.super_name; interfaces = b.interfaces.items; fields = b.fields; methods = b.methods; nest_host = b.nests.host; nest_members = b.nests.members; permits = b.nests.permits; pool = b.entries }) };
 }
 
 impl ClassBuilder {
@@ -86,6 +90,12 @@ impl ClassBuilder {
             interfaces: Vec::new(alloc),
             fields: MemberTable::new(alloc),
             methods: MemberTable::new(alloc),
+            nests: Nests {
+                host: None,
+                members: Items::from_vec(Vec::new(alloc)),
+                permits: None,
+            },
+            attributes: 0,
             entries: appended(first, added)?,
         })
     }
@@ -112,7 +122,7 @@ impl ClassBuilder {
     fn interface_named(&mut self, name: &Name) -> Result<(), WriteFault>
         requires name { IsTrue (names_a_class name.now) }
         requires short { IsShort name.now }
-        ensures exact { Gives told (λ _. self.new) result (with_interface self.old name.now) }
+        ensures exact { Gives told (λ _. self.new) result (of_class self.old (with_interface self.old.class name.now)) }
         ensures err { OnErr result (self.new ≡ self.old) }
     {
         if self.interfaces.len() >= MOST_ROWS {
@@ -133,13 +143,13 @@ impl ClassBuilder {
         desc: &Name,
         constant: Option<Constant>,
     ) -> Result<(), WriteFault>
-        requires flags { IsTrue (are_field_flags (is_interface self.old.flags) flags) }
+        requires flags { IsTrue (are_field_flags (is_interface self.old.class.flags) flags) }
         requires name { IsTrue (names_a_field name.now) }
         requires desc { IsTrue (describes_a_field desc.now) }
         requires short { IsShort name.now × IsShort desc.now }
-        requires fresh { is_member_among (record { name = name.now; desc = desc.now }) (map field_key self.old.fields) ≡ false }
+        requires fresh { is_member_among (record { name = name.now; desc = desc.now }) (map field_key self.old.class.fields) ≡ false }
         requires constant { MayHave flags desc.now constant }
-        ensures exact { Gives told (λ _. self.new) result (with_field self.old flags name.now desc.now constant) }
+        ensures exact { Gives told (λ _. self.new) result (of_class self.old (with_field self.old.class flags name.now desc.now constant)) }
         ensures err { OnErr result (self.new ≡ self.old) }
     {
         if self.fields.len() >= MOST_ROWS {
@@ -171,10 +181,10 @@ impl ClassBuilder {
         requires name { IsTrue (names_method_with flags name.now) }
         requires desc { IsTrue (describes_method_with name.now desc.now) }
         requires short { IsShort name.now × IsShort desc.now }
-        requires fresh { is_member_among (record { name = name.now; desc = desc.now }) (map method_key self.old.methods) ≡ false }
+        requires fresh { is_member_among (record { name = name.now; desc = desc.now }) (map method_key self.old.class.methods) ≡ false }
         requires has { is_some code ≡ has_code flags }
         requires small { IsSmall code }
-        ensures exact { Gives told (λ _. self.new) result (with_method self.old flags name.now desc.now code) }
+        ensures exact { Gives told (λ _. self.new) result (of_class self.old (with_method self.old.class flags name.now desc.now code)) }
         ensures err { OnErr result (self.new ≡ self.old) }
     {
         if self.methods.len() >= MOST_ROWS {
@@ -198,35 +208,34 @@ impl ClassBuilder {
 
     /// Whether it is an interface.
     pub fn is_interface(&self) -> bool
-        ensures { result ≡ is_interface self.now.flags }
+        ensures { result ≡ is_interface self.now.class.flags }
     {
         is_interface(self.flags)
     }
 
     /// Whether a field of this name and descriptor is there.
     pub fn has_field(&self, name: &Name, desc: &Name) -> bool
-        ensures { result ≡ is_member_among (record { name = name.now; desc = desc.now }) (map field_key self.now.fields) }
+        ensures { result ≡ is_member_among (record { name = name.now; desc = desc.now }) (map field_key self.now.class.fields) }
     {
         self.fields.has(name, desc)
     }
 
     /// Whether a method of this name and descriptor is there.
     pub fn has_method(&self, name: &Name, desc: &Name) -> bool
-        ensures { result ≡ is_member_among (record { name = name.now; desc = desc.now }) (map method_key self.now.methods) }
+        ensures { result ≡ is_member_among (record { name = name.now; desc = desc.now }) (map method_key self.now.class.methods) }
     {
         self.methods.has(name, desc)
     }
 
     /// The class, with its members in the order in which they were added. It can be written.
     pub fn finish(self) -> Result<ClassDecl, WriteFault>
-        ensures same { IfOk result (λ c. c ≡ self) }
+        ensures same { IfOk result (λ c. c ≡ self.class) }
         // Some file declares it.
         ensures declared { IfOk result (λ c. (bytes : List ℕ) × IsClass bytes c) }
         // No other error comes.
         ensures memory { IsOkUnless result WriteFault.NoMemory }
     {
         let ClassBuilder {
-            alloc,
             major,
             flags,
             name,
@@ -234,7 +243,9 @@ impl ClassBuilder {
             interfaces,
             fields,
             methods,
+            nests,
             entries,
+            ..
         } = self;
         Ok(ClassDecl::from_parts(
             (major, 0),
@@ -244,11 +255,7 @@ impl ClassBuilder {
             Items::from_vec(interfaces),
             Items::from_vec(fields.into_vec()),
             Items::from_vec(methods.into_vec()),
-            Nests {
-                host: None,
-                members: Items::from_vec(Vec::new(alloc)),
-                permits: None,
-            },
+            nests,
             Pool::from_entries(entries.into_vec()),
         ))
     }

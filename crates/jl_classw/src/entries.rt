@@ -1,11 +1,13 @@
 //! The entries of a pool that is being made, and where each of them stands first.
 
 ghost use Rattle.std.specs.Prelude.{◌≡◌, ◌<◌, ◌≤◌, ◌++◌, [], ◌∷◌, ℕ, List, length, position, take, IfOk, OnOk, OnErr, IsOkUnless};
+ghost use Rattle.std.specs.Option.{option_copied};
 ghost use Rattle.indexmap.specs.IndexMap.{get};
 ghost use Rattle.jl_logic.specs.Lists.{IsFront};
 ghost use Rattle.jl_logic.specs.Order.{is_text};
 ghost use Rattle.jl_pool.specs.declared.entry.Entry.{Entry};
 ghost use Rattle.jl_pool.specs.declared.entry.Entry.TheVariants as entries;
+ghost use Rattle.jl_pool.specs.Pool.{class_named, class_of, paired_text};
 ghost use Rattle.jl_classw.specs.declared.entries.Key.{Key};
 ghost use Rattle.jl_classw.specs.Building as building;
 ghost use Rattle.jl_classw.specs.Keys.{key_of, is_key, is_keyed, text_place, other_place, place_in, AreNoted};
@@ -13,7 +15,9 @@ ghost use Rattle.jl_classw.specs.Writing.{or_here};
 
 use crate::fault::WriteFault;
 use indexmap::IndexMap;
+use jl_names::{is_class_name, is_paired};
 use jl_pool::{Entry, Text};
+use jl_prim::Name;
 use std::alloc::Global;
 use std::marker::Model;
 
@@ -88,6 +92,21 @@ impl Entries {
         self.firsts.place(entry)
     }
 
+    /// The name of the class at an index, where it is the name of a class.
+    pub fn class_name(&self, index: u16) -> Option<&Name>
+        ensures { option_copied result ≡ class_named self.now index }
+    {
+        let text = paired_text(
+            self.entries.as_slice(),
+            class_of(self.entries.as_slice(), index)?,
+        )?;
+        if is_class_name(text.as_bytes()) {
+            Some(text)
+        } else {
+            None
+        }
+    }
+
     /// Puts entries behind them. Without memory they stay as they are.
     pub fn append(&mut self, added: Vec<Entry>) -> Result<(), WriteFault>
         requires { length (self.old ++ added.items) < 65536 }
@@ -113,6 +132,26 @@ impl Entries {
     {
         let Entries { entries, .. } = self;
         entries
+    }
+}
+
+/// The index of the name of the class at an index.
+fn class_of(entries: &[Entry], index: u16) -> Option<u16>
+    ensures { result ≡ class_of entries.now index }
+{
+    match entries.get(index as usize) {
+        Some(Entry::Class(name)) => Some(*name),
+        _ => None,
+    }
+}
+
+/// The text at an index, where no surrogate stands alone.
+fn paired_text(entries: &[Entry], index: u16) -> Option<&Name>
+    ensures { option_copied result ≡ paired_text entries.now index }
+{
+    match entries.get(index as usize) {
+        Some(Entry::Utf8(text)) if is_paired(text.units().as_slice()) => Some(text.name()),
+        _ => None,
     }
 }
 

@@ -14,8 +14,8 @@ use std::alloc::{AllocError, AllocFailed, Global};
 /// Why a class was not built or written.
 #[derive(Debug, PartialEq, Drop)]
 pub enum WriteFault {
-    /// The table of this name, one of `interfaces`, `fields`, `methods`, `handlers` and `pool`, would have
-    /// more than 65,535 entries.
+    /// The table of this name, one of `interfaces`, `fields`, `methods`, `handlers`, `attributes` and `pool`,
+    /// would have more than 65,535 entries.
     TooMany(Name),
     /// There was no memory for it.
     NoMemory,

@@ -4,6 +4,7 @@
 mod builder;
 mod conditions;
 mod constants;
+mod contents;
 mod entering;
 mod entries;
 mod entry;

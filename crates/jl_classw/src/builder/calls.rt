@@ -8,7 +8,7 @@ ghost use Rattle.jl_class.specs.Meaning.{field_key, method_key, is_member_among,
 ghost use Rattle.jl_classfile.specs.Front.{is_version};
 ghost use Rattle.jl_classw.specs.Faults.{told};
 ghost use Rattle.jl_classw.specs.Built.{IsSuper, MayHave, IsSmall};
-ghost use Rattle.jl_classw.specs.Building.{unless_empty, new_class, with_interface, with_field, with_method};
+ghost use Rattle.jl_classw.specs.Building.{unless_empty, new_class, of_class, with_interface, with_field, with_method};
 
 use super::ClassBuilder;
 use crate::entry::Constant;
@@ -57,7 +57,7 @@ impl ClassBuilder {
         requires utf8 { IsUtf8 name.now }
         requires name { IsTrue (names_a_class name.now) }
         requires short { IsShort name.now }
-        ensures exact { Gives told (λ _. self.new) result (with_interface self.old name.now) }
+        ensures exact { Gives told (λ _. self.new) result (of_class self.old (with_interface self.old.class name.now)) }
         ensures err { OnErr result (self.new ≡ self.old) }
     {
         let name = name_of(self.alloc, name)?;
@@ -77,13 +77,13 @@ impl ClassBuilder {
         constant: Option<Constant>,
     ) -> Result<(), WriteFault>
         requires utf8 { IsUtf8 name.now × IsUtf8 desc.now }
-        requires flags { IsTrue (are_field_flags (is_interface self.old.flags) flags) }
+        requires flags { IsTrue (are_field_flags (is_interface self.old.class.flags) flags) }
         requires name { IsTrue (names_a_field name.now) }
         requires desc { IsTrue (describes_a_field desc.now) }
         requires short { IsShort name.now × IsShort desc.now }
-        requires fresh { is_member_among (record { name = name.now; desc = desc.now }) (map field_key self.old.fields) ≡ false }
+        requires fresh { is_member_among (record { name = name.now; desc = desc.now }) (map field_key self.old.class.fields) ≡ false }
         requires constant { MayHave flags desc.now constant }
-        ensures exact { Gives told (λ _. self.new) result (with_field self.old flags name.now desc.now constant) }
+        ensures exact { Gives told (λ _. self.new) result (of_class self.old (with_field self.old.class flags name.now desc.now constant)) }
         ensures err { OnErr result (self.new ≡ self.old) }
     {
         let name = name_of(self.alloc, name)?;
@@ -110,10 +110,10 @@ impl ClassBuilder {
         requires name { IsTrue (names_method_with flags name.now) }
         requires desc { IsTrue (describes_method_with name.now desc.now) }
         requires short { IsShort name.now × IsShort desc.now }
-        requires fresh { is_member_among (record { name = name.now; desc = desc.now }) (map method_key self.old.methods) ≡ false }
+        requires fresh { is_member_among (record { name = name.now; desc = desc.now }) (map method_key self.old.class.methods) ≡ false }
         requires has { is_some code ≡ has_code flags }
         requires small { IsSmall code }
-        ensures exact { Gives told (λ _. self.new) result (with_method self.old flags name.now desc.now code) }
+        ensures exact { Gives told (λ _. self.new) result (of_class self.old (with_method self.old.class flags name.now desc.now code)) }
         ensures err { OnErr result (self.new ≡ self.old) }
     {
         let name = name_of(self.alloc, name)?;

@@ -1,5 +1,5 @@
-use Rattle.std.proofs.Common.{refl, ◌≡◌, ◌<◌, true, false, map, length, sym, subst, arith, None, []}
-use Rattle.jl_class.specs.Classes.{Class}
+use Rattle.std.proofs.Common.{refl, ◌≡◌, ◌<◌, true, false, map, length, sym, subst, arith}
+use Rattle.jl_classw.specs.Building.{Making}
 use Rattle.jl_class.specs.Meaning.{are_field_flags, is_interface, is_member_among, field_key}
 use Rattle.jl_classw.proofs.BuiltLaws.{field_kept}
 use Rattle.jl_classw.proofs.builder.ClassBuilder.field_named.Goals as goal
@@ -8,9 +8,9 @@ pub invariant_of-self-2 : goal.invariant_of-self-2
 invariant_of-self-2 c =
     let b = c.self.inside in
     let room : length b.fields < 65535 = grind arith in
-    let Flags : Class → Type 0 = λ k. are_field_flags (is_interface k.flags) c.args.flags ≡ true in
-    let Fresh : Class → Type 0 = λ k. is_member_among (record { name = c.args.name.now; desc = c.args.desc.now }) (map field_key k.fields) ≡ false in
-    field_kept (record { major = b.major; minor = 0; flags = b.flags; name = b.name; super_name = b.super_name; interfaces = b.interfaces.items; fields = b.fields; methods = b.methods; nest_host = None; nest_members = []; permits = None; pool = b.entries })
+    let Flags : Making → Type 0 = λ k. are_field_flags (is_interface k.class.flags) c.args.flags ≡ true in
+    let Fresh : Making → Type 0 = λ k. is_member_among (record { name = c.args.name.now; desc = c.args.desc.now }) (map field_key k.class.fields) ≡ false in
+    field_kept (record { major = b.major; minor = 0; flags = b.flags; name = b.name; super_name = b.super_name; interfaces = b.interfaces.items; fields = b.fields; methods = b.methods; nest_host = b.nests.host; nest_members = b.nests.members; permits = b.nests.permits; pool = b.entries })
     b.entries b.entries b.entries c.new.result.items c.in_ok-added.added.items c.in_ok-added-2.added.items c.in_ok-added-3.added.items c.put_member.new.entries
     c.args.flags c.in_ok-copy.field-0 c.in_ok-copy-2.field-0 c.args.name.now c.args.desc.now c.args.constant c.in_ok-added-3.constant c.put_member.new.members
     c.self.invariant.1 (omega (arith, c.ranges.flags.fits)) (subst Flags (sym c.self.view_is) c.requires.flags) c.requires.name c.requires.desc (subst Fresh (sym c.self.view_is) c.requires.fresh)

@@ -1,5 +1,5 @@
-use Rattle.std.proofs.Common.{refl, ◌≡◌, ◌∙◌, ◌<◌, false, map, length, sym, subst, arith, None, []}
-use Rattle.jl_class.specs.Classes.{Class}
+use Rattle.std.proofs.Common.{refl, ◌≡◌, ◌∙◌, ◌<◌, false, map, length, sym, subst, arith}
+use Rattle.jl_classw.specs.Building.{Making}
 use Rattle.jl_class.specs.Meaning.{is_member_among, method_key}
 use Rattle.jl_classw.specs.Building.{has_many_handlers}
 use Rattle.jl_classw.proofs.BuiltLaws.{method_kept}
@@ -10,8 +10,8 @@ invariant_of-self-2 c =
     let b = c.self.inside in
     let room : length b.methods < 65535 = grind arith in
     let counted : has_many_handlers c.args.code ≡ false = sym c.has_many_handlers.ensures ∙ c.if-has_many_handlers.false in
-    let Fresh : Class → Type 0 = λ k. is_member_among (record { name = c.args.name.now; desc = c.args.desc.now }) (map method_key k.methods) ≡ false in
-    method_kept (record { major = b.major; minor = 0; flags = b.flags; name = b.name; super_name = b.super_name; interfaces = b.interfaces.items; fields = b.fields; methods = b.methods; nest_host = None; nest_members = []; permits = None; pool = b.entries })
+    let Fresh : Making → Type 0 = λ k. is_member_among (record { name = c.args.name.now; desc = c.args.desc.now }) (map method_key k.class.methods) ≡ false in
+    method_kept (record { major = b.major; minor = 0; flags = b.flags; name = b.name; super_name = b.super_name; interfaces = b.interfaces.items; fields = b.fields; methods = b.methods; nest_host = b.nests.host; nest_members = b.nests.members; permits = b.nests.permits; pool = b.entries })
     b.entries b.entries b.entries c.new.result.items c.in_ok-added.added.items c.in_ok-added-2.added.items c.in_ok-added-3.added.items c.put_member.new.entries
     c.args.flags c.in_ok-copy.field-0 c.in_ok-copy-2.field-0 c.args.name.now c.args.desc.now c.args.code c.put_member.new.members
     c.self.invariant.1 (omega (arith, c.ranges.flags.fits)) c.requires.flags c.requires.name c.requires.desc c.requires.has (subst Fresh (sym c.self.view_is) c.requires.fresh)
