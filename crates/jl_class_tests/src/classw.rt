@@ -406,7 +406,7 @@ fn entries_are_counted_by_two_bytes(rt: HostRuntime) -> Result<(), Fail> {
     for n in 0..32765u16 {
         entered(alloc, &mut b, format!(in alloc; "class C{n}")?.as_str())?;
     }
-    static ROWS: [&str; 6] = [
+    static ROWS: [&str; 8] = [
         "int 7 -> TooMany(pool)",
         "field 1 x I -> TooMany(pool)",
         "interface p/I -> TooMany(pool)",
