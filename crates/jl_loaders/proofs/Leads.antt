@@ -1,5 +1,5 @@
 -- Leads do not move: they need no more fuel than the number of the loader, and later loaders do not change them.
-use Rattle.std.proofs.Common.{◌≡◌, ◌<◌, ◌≤◌, ℕ, zero, suc, List, [], ◌∷◌, ◌++◌, length, slice_get, Option, Some, None, refl, sym, ◌∙◌, ap, ap₂, subst, arith}
+use Rattle.std.proofs.Common.{◌≡◌, ◌<◌, ◌≤◌, ℕ, zero, suc, List, [], ◌∷◌, ◌++◌, length, slice_get, Option, Some, None, ⊎_elim, refl, sym, ◌∙◌, ap, ap₂, subst, arith}
 use Rattle.std.specs.Prelude.{⊤}
 use Rattle.std.specs.Option.{option_or}
 use Rattle.jl_logic.specs.Lists.{IsFront}
@@ -111,8 +111,12 @@ lead_alike f g e b (suc n) (Loader l) p =
 
 -- ---- more loaders
 
+-- where there is a loader, the module of java.base stays
+base_stays : (f g : State) → Grows f g → 0 < length f.loaders → g.base ≡ f.base
+base_stays f g h lt = ⊎_elim (λ e. let none : 0 < 0 = subst (λ (ls : List Parts). 0 < length ls) e lt in absurd (omega arith)) (λ e. e) h.base
+
 base_kept : (f g : State) (p : List ℕ) → Grows f g → 0 < length f.loaders → base_lead g p ≡ base_lead f p
-base_kept f g p h lt = ap₂ (λ (o : Option ModuleId) (x : Option Parts). if_same o (had_by x p)) h.base (kept_number f.loaders g.loaders 1 h.loaders (omega arith) lt)
+base_kept f g p h lt = ap₂ (λ (o : Option ModuleId) (x : Option Parts). if_same o (had_by x p)) (base_stays f g h lt) (kept_number f.loaders g.loaders 1 h.loaders (omega arith) lt)
 
 parent_there : (f : State) (j : ℕ) → ParentsBelow f.loaders → j ≤ length f.loaders → ParentExists f (parent_in (numbered f.loaders j))
 parent_there f j below le = by (numbered f.loaders j) refl

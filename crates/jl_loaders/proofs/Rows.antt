@@ -1,5 +1,5 @@
 -- Worked rows of the definitions: packages b, p and q, and the class T of each.
-use Rattle.std.proofs.Common.{◌≡◌, ℕ, zero, suc, List, [], ◌∷◌, Bool, true, false, if◌then◌else◌, Option, Some, None, inl, inr, refl, sym, ◌∙◌, ap, lit<, arith}
+use Rattle.std.proofs.Common.{◌≡◌, ℕ, zero, suc, List, [], ◌∷◌, Bool, true, false, if◌then◌else◌, Option, Some, None, inl, inr, ⊎_elim, refl, sym, ◌∙◌, ap, lit<, arith}
 use Rattle.std.specs.Prelude.{codes}
 use Rattle.std.specs.Option.{option_or}
 use Rattle.jl_logic.specs.Order.{is_text}
@@ -10,6 +10,7 @@ use Rattle.jl_prim.specs.declared.declaration.ParentLoader.{ParentLoader}
 use Rattle.jl_prim.specs.declared.declaration.ParentLoader.TheVariants.{Null, Loader}
 use Rattle.jl_loaders.specs.declared.constraint.Constraint.{Constraint}
 use Rattle.jl_loaders.specs.Loaders.{State, Parts, IsMap, lead, lead_by}
+use Rattle.jl_loaders.specs.Laws.{Grows}
 use Rattle.jl_loaders.specs.Constraints.{constraint, IsEntry, IsViolated, with_constraint, Clashes}
 
 abbrev m : ℕ → ModuleId
@@ -65,6 +66,14 @@ no_java_base = refl
 nowhere : lead (among some_loaders (Some (m 1)) []) (loader 3) (codes "r/T") ≡ None
 unfolding lead_by package_of
 nowhere = refl
+
+-- ---- growth: java.base is said before there is a loader, and stays from then on
+
+base_is_said : Grows (among [] None []) (among [] (Some (m 1)) [])
+base_is_said = record { loaders = ([], refl); base = inl refl }
+
+base_is_kept : Grows (among some_loaders None []) (among some_loaders (Some (m 1)) []) → ⊥
+base_is_kept h = ⊎_elim (λ e. absurd cc) (λ e. absurd cc) h.base
 
 -- ---- a map: the first module of a package, own before seen
 

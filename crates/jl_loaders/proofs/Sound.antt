@@ -1,5 +1,5 @@
 -- Constraints that stand go on to stand, and what one more makes of them.
-use Rattle.std.proofs.Common.{◌≡◌, ◌≢◌, ◌⊎◌, ◌<◌, ◌≤◌, ◌+◌, ℕ, zero, suc, List, [], ◌∷◌, ◌++◌, length, length-append, Option, Some, None, ⊎_elim, refl, sym, ◌∙◌, ap, subst, arith}
+use Rattle.std.proofs.Common.{◌≡◌, ◌≢◌, ◌⊎◌, ◌<◌, ◌≤◌, ◌+◌, ℕ, zero, suc, List, [], ◌∷◌, ◌++◌, length, length-append, Option, Some, None, inl, inr, ⊎_elim, refl, sym, ◌∙◌, ap, subst, arith}
 use Rattle.std.specs.Prelude.{Contains}
 use Rattle.std.proofs.lemmas.Bool.{cases_eq, cases_lt}
 use Rattle.std.proofs.lemmas.List.{append-nil, append_assoc}
@@ -20,10 +20,17 @@ use Rattle.jl_loaders.proofs.Leads.{lead_stays, lead_alike, kept_number}
 
 -- ---- growth
 
+front_of_none : (xs ys : List Parts) → xs ++ ys ≡ [] → xs ≡ []
+front_of_none [] ys e = refl
+front_of_none (x ∷ xs) ys e = absurd cc
+
+none_before : (f g : State) → Grows f g → g.loaders ≡ [] → f.loaders ≡ []
+none_before f g h e = front_of_none f.loaders h.loaders.0 (sym h.loaders.1 ∙ e)
+
 pub grows_onward : (f g h : State) → Grows f g → Grows g h → Grows f h
 grows_onward f g h a b = record {
   loaders = (a.loaders.0 ++ b.loaders.0, b.loaders.1 ∙ ap (λ (l : List Parts). l ++ b.loaders.0) a.loaders.1 ∙ append_assoc f.loaders a.loaders.0 b.loaders.0);
-  base = b.base ∙ a.base;
+  base = ⊎_elim inl (λ e. ⊎_elim (λ none. inl (none_before f g a none)) (λ i. inr (i ∙ e)) b.base) a.base;
 }
 
 still_loader : (f g : State) (l : LoaderId) → Grows f g → IsLoader f l → IsLoader g l
@@ -52,16 +59,19 @@ violated_stays f g sound h same (name, a, m, n, e, (b, (k, chain), i), apart) = 
         let ends = chain_ends f name k a b sound.named c in
         sound.stand (name, a, m, n, sym (lead_stays f g a name sound.below h ends.0) ∙ e, (b, (suc k, c), sym (lead_stays f g b name sound.below h ends.1) ∙ i), apart)
 
--- ---- the same loaders and constraints
+-- ---- the same constraints
 
-pub sound_alike : (f g : State) → g.loaders ≡ f.loaders → g.base ≡ f.base → g.constraints ≡ f.constraints → AreSound f → AreSound g
+sound_grown : (f g : State) → AreSound f → Grows f g → ParentsBelow g.loaders → g.constraints ≡ f.constraints → AreSound g
+sound_grown f g sound h below c = record {
+  below = below;
+  named = λ k there. let r = sound.named k (subst (λ (cs : List Constraint). Contains cs k) c there) in (still_loader f g k.one h r.0, still_loader f g k.other h r.1);
+  stand = violated_stays f g sound h c;
+}
+
+-- the same loaders too
+pub sound_alike : (f g : State) → g.loaders ≡ f.loaders → (f.loaders ≡ []) ⊎ (g.base ≡ f.base) → g.constraints ≡ f.constraints → AreSound f → AreSound g
 sound_alike f g e b c sound =
-    let h : Grows f g = record { loaders = ([], e ∙ sym (append-nil f.loaders)); base = b } in
-    record {
-      below = subst ParentsBelow (sym e) sound.below;
-      named = λ k there. let r = sound.named k (subst (λ (cs : List Constraint). Contains cs k) c there) in (still_loader f g k.one h r.0, still_loader f g k.other h r.1);
-      stand = violated_stays f g sound h c;
-    }
+    sound_grown f g sound (record { loaders = ([], e ∙ sym (append-nil f.loaders)); base = b }) (subst ParentsBelow (sym e) sound.below) c
 
 -- ---- one more loader
 
@@ -90,12 +100,7 @@ below_placed f x below there n l p e i = by n e
 
 pub sound_placed : (f g : State) (x : Parts) → AreSound f → ParentExists f x.parent → g.loaders ≡ f.loaders ++ x ∷ [] → g.base ≡ f.base → g.constraints ≡ f.constraints → AreSound g
 sound_placed f g x sound there e b c =
-    let h : Grows f g = record { loaders = (x ∷ [], e); base = b } in
-    record {
-      below = subst ParentsBelow (sym e) (below_placed f x sound.below there);
-      named = λ k in_g. let r = sound.named k (subst (λ (cs : List Constraint). Contains cs k) c in_g) in (still_loader f g k.one h r.0, still_loader f g k.other h r.1);
-      stand = violated_stays f g sound h c;
-    }
+    sound_grown f g sound (record { loaders = (x ∷ [], e); base = inr b }) (subst ParentsBelow (sym e) (below_placed f x sound.below there)) c
 
 -- ---- one more constraint
 

@@ -1,5 +1,5 @@
 -- Laws of loaders: a lead never moves, and constraints that stand go on to stand (JVMS 5.3, 5.3.4).
-use Rattle.std.specs.Prelude.{◌≡◌, ℕ, ◌<◌, List, Some, Contains}
+use Rattle.std.specs.Prelude.{◌≡◌, ◌⊎◌, ℕ, ◌<◌, List, [], Some, Contains}
 use Rattle.jl_logic.specs.Lists.{IsFront}
 use Rattle.jl_prim.specs.declared.numbers.LoaderId.{LoaderId}
 use Rattle.jl_prim.specs.declared.declaration.ParentLoader.TheVariants.{Loader}
@@ -21,10 +21,10 @@ pub record AreSound (s : State) : Type 0 where
   pub named : AreOfLoaders s
   pub stand : IsViolated s → ⊥
 
--- the old loaders, and any more behind them
+-- The old loaders, and any more behind them. Once there is a loader, the module of java.base stays.
 pub record Grows (old new : State) : Type 0 where
   pub loaders : IsFront old.loaders new.loaders
-  pub base : new.base ≡ old.base
+  pub base : (old.loaders ≡ []) ⊎ (new.base ≡ old.base)
 
 -- Whatever loaders and constraints come, the lead of a loader that is there does not move, and constraints that stand are not violated.
 pub record LeadsStay : Type 0 where

@@ -77,10 +77,11 @@ impl Loaders {
         LoaderId(self.loaders.len() as u32)
     }
 
-    /// Says which module `java.base` is. A null parent leads to it, for the packages that loader 1 has for it.
+    /// Says which module `java.base` is, before there is a loader. A null parent leads to it, for the packages that
+    /// loader 1 has for it.
     pub fn set_base(&mut self, m: ModuleId)
         requires once { self.old.base ≡ None }
-        requires early { self.old.constraints ≡ [] }
+        requires early { self.old.loaders ≡ [] }
         ensures { self.new ≡ record { loaders = self.old.loaders; base = Some m; constraints = self.old.constraints; spare = self.old.spare } }
     {
         self.base = Some(m);
