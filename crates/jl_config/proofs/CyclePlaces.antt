@@ -14,21 +14,13 @@ use Rattle.jl_config.specs.declared.fault.ResolveFault.TheVariants.{Cycle}
 use Rattle.jl_config.specs.Located.{Scene, candidate_name}
 use Rattle.jl_config.specs.Members.{IsMember}
 use Rattle.jl_config.specs.Orders.{candidate_cmp}
-use Rattle.jl_config.specs.Places.{place_named, AreMarks, AreMembers, candidates_at, CycleFault}
+use Rattle.jl_config.specs.Places.{place_named, kept_marked, AreMarks, AreMembers, candidates_at, CycleFault}
 use Rattle.jl_config.specs.Refusals.{HasEdge, Leads, IsOnCycle, fault_cmp}
-use Rattle.jl_config.specs.Cycles.{kept_marked, edge_place, edge_row, edge_rows, LeadsBack, IsFirstOnCycle}
-use Rattle.jl_config.proofs.MemberFinds.{FoundAt, found_where, member_found}
+use Rattle.jl_config.specs.Cycles.{edge_place, edge_row, edge_rows, LeadsBack, IsFirstOnCycle}
+use Rattle.jl_config.proofs.MemberFinds.{FoundAt, found_where, kept_shows, member_found}
 use Rattle.jl_config.proofs.Lists.{into_filter_map, from_filter_map, from_map, row_at, all_of, same_item, item_at, mark_of}
 use Rattle.jl_config.proofs.FaultOrder.{cycle_cmp, candidates_total}
 use Rattle.jl_config.proofs.Finds.{named_shows, named_place}
-
-kept_shows : (marks : List Bool) (o : Option ℕ) (p : ℕ) → kept_marked marks o ≡ Some p → (o ≡ Some p) × (get_or marks p false ≡ true)
-kept_shows marks None p e = absurd cc
-kept_shows marks (Some q) p e = by (get_or marks q false) refl e
-  where
-    by : (b : Bool) → get_or marks q false ≡ b → cond b (Some q) None ≡ Some p → (Some q ≡ Some p) × (get_or marks p false ≡ true)
-    by true f g = let same : q ≡ p = cc in (g, ap (λ (k : ℕ). get_or marks k false) (sym same) ∙ f)
-    by false f g = absurd cc
 
 module _ (w : Scene) (marks : List Bool) (right : AreMarks w marks) where
   abbrev Edges : Candidate → List ℕ

@@ -1,15 +1,15 @@
 -- Finding modules in sight: by any test, by their names, and by their configurations and names.
-use Rattle.std.proofs.Common.{◌≡◌, ◌+◌, ℕ, suc, List, [], ◌∷◌, slice_get, refl, sym, ◌∙◌, ap, subst, Option, Some, None, option_map, Bool, true, false, cond, ◌&&◌, add-one}
+use Rattle.std.proofs.Common.{◌≡◌, ◌+◌, ℕ, suc, List, [], ◌∷◌, slice_get, refl, sym, ◌∙◌, ap, ap₂, subst, Option, Some, None, option_map, Bool, true, false, cond, not, ◌&&◌, add-one, filter}
 use Rattle.std.proofs.lemmas.Bool.{eqb-true, eq-eqb, and_parts, and_from}
 use Rattle.std.proofs.Math.Bool.{and-false}
 use Rattle.jl_prim.specs.declared.numbers.ConfigId.{ConfigId}
 use Rattle.jl_config.specs.declared.candidate.Candidate.{Candidate}
-use Rattle.jl_config.specs.Located.{candidate_name, is_numbered, find_named, find_candidate}
-use Rattle.jl_config.specs.Places.{place_named, place_of_candidate}
+use Rattle.jl_config.specs.Located.{Scene, candidate_name, is_numbered, is_here, find_named, located_above, find_candidate}
+use Rattle.jl_config.specs.Places.{place_named, place_above, place_of_candidate}
 use Rattle.jl_config.specs.Tables.{first_where}
 use Rattle.jl_config.proofs.Names.{text_is}
 use Rattle.jl_config.proofs.Scenes.{first_named, own_test, first_own}
-use Rattle.jl_config.specs.Lineages.{is_named}
+use Rattle.jl_config.specs.Lineages.{is_named, is_outside}
 
 module _ {X : Type 0} (test : X → Bool) where
   abbrev pub find_where : List X → Option X
@@ -120,3 +120,54 @@ own_place_of config name ss s e = let r = where_place (own_test config name) ss 
 -- the first of a name is the first of its configuration and name too
 pub named_first : (name : List ℕ) (ss : List Candidate) (p : ℕ) (s : Candidate) → place_named name ss ≡ Some p → slice_get ss p ≡ Some s → place_of_candidate s.config name ss ≡ Some p
 named_first name ss p s e at = first_own s.config name ss ∙ first_of_both (is_named name) (λ v. is_numbered v.config s.config) ss p s (sym (first_named name ss) ∙ e) at (eq-eqb s.config.0 s.config.0 refl)
+
+-- ---- by a name, among the modules of ancestors
+
+first_alike : {X : Type 0} (f g : X → Bool) → ((x : X) → f x ≡ g x) → (xs : List X) → first_where f xs ≡ first_where g xs
+first_alike f g same [] = refl
+first_alike f g same (x ∷ xs) = ap₂ (λ (b : Bool) (o : Option ℕ). cond b (Some 0) (option_map (λ k. k + 1) o)) (same x) (first_alike f g same xs)
+
+filter_find : (test : Candidate → Bool) (name : List ℕ) (ss : List Candidate) → find_named name (filter test ss) ≡ find_where (λ s. test s && is_named name s) ss
+filter_find test name [] = refl
+filter_find test name (s ∷ ss) = by (test s) (filter_find test name ss)
+  where
+    by : (b : Bool) → find_named name (filter test ss) ≡ find_where (λ s. test s && is_named name s) ss
+        → find_named name (cond b (s ∷ filter test ss) (filter test ss)) ≡ cond (b && is_named name s) (Some s) (find_where (λ s. test s && is_named name s) ss)
+    by true e = ap (λ (o : Option Candidate). cond (is_named name s) (Some s) o) e
+    by false e = e
+
+abbrev above_test : Scene → List ℕ → Candidate → Bool
+above_test w name s = is_outside w.id s && is_named name s
+
+pub record AboveAt (w : Scene) (name : List ℕ) (p : ℕ) (s : Candidate) : Type 0 where
+  pub at : slice_get w.candidates p ≡ Some s
+  pub found : located_above w name ≡ Some s
+  pub first : place_above w name ≡ Some p
+  pub own : place_of_candidate s.config (candidate_name s) w.candidates ≡ Some p
+
+-- of a configuration that is not this one the first of a name among the modules of ancestors is the first
+own_above : (w : Scene) (name : List ℕ) (p : ℕ) (s : Candidate) → FirstAt (above_test w name) w.candidates p s → place_of_candidate s.config (candidate_name s) w.candidates ≡ Some p
+own_above w name p s f =
+    let parts = and_parts (is_outside w.id s) (is_named name s) f.passes in
+    let named : candidate_name s ≡ name = text_is (candidate_name s) name parts.1 in
+    let both = first_of_both (above_test w name) (λ v. is_numbered v.config s.config) w.candidates p s f.first f.at (eq-eqb s.config.0 s.config.0 refl) in
+    ap (λ (n : List ℕ). place_of_candidate s.config n w.candidates) named ∙ first_own s.config name w.candidates
+    ∙ first_alike (own_test s.config name) (λ v. is_numbered v.config s.config && above_test w name v) (λ v. by v parts.0 (is_numbered v.config s.config) refl) w.candidates ∙ both
+  where
+    by : (v : Candidate) → is_outside w.id s ≡ true → (b : Bool) → is_numbered v.config s.config ≡ b → (b && is_named name v) ≡ (b && above_test w name v)
+    by v out true e =
+        let same : s.config ≡ v.config = sym (same_number v.config s.config e) in
+        let outside : is_outside w.id v ≡ true = subst (λ (c : ConfigId). not (is_numbered c w.id) ≡ true) same out in
+        sym (ap (λ (t : Bool). t && is_named name v) outside)
+    by v out false e = refl
+
+as_above : (w : Scene) (name : List ℕ) (p : ℕ) (s : Candidate) → FirstAt (above_test w name) w.candidates p s → AboveAt w name p s
+as_above w name p s f = record { at = f.at; found = filter_find (λ t. not (is_here w t)) name w.candidates ∙ f.found; first = f.first; own = own_above w name p s f }
+
+pub above_shows : (w : Scene) (name : List ℕ) (p : ℕ) → place_above w name ≡ Some p → (s : Candidate) × AboveAt w name p s
+above_shows w name p e = let r = where_shows (above_test w name) w.candidates p e in (r.0, as_above w name p r.0 r.1)
+
+pub above_place : (w : Scene) (name : List ℕ) (s : Candidate) → located_above w name ≡ Some s → (p : ℕ) × AboveAt w name p s
+above_place w name s e =
+    let r = where_place (above_test w name) w.candidates s (sym (filter_find (λ t. not (is_here w t)) name w.candidates) ∙ e) in
+    (r.0, as_above w name r.0 s r.1)

@@ -1,11 +1,11 @@
 -- Modules in sight, found by their names and by places.
-use Rattle.std.proofs.Common.{◌≡◌, ℕ, suc, List, slice_get, refl, sym, ◌∙◌, ap, subst, Option, Some, None, Bool, true, false, cond, zero}
+use Rattle.std.proofs.Common.{◌≡◌, ℕ, suc, List, get_or, slice_get, refl, sym, ◌∙◌, ap, subst, Option, Some, None, Bool, true, false, cond, zero}
 use Rattle.std.specs.Option.{option_map_or}
 use Rattle.jl_config.specs.declared.candidate.Candidate.{Candidate}
 use Rattle.jl_config.specs.Located.{Scene, candidate_name, find_named, is_here, located}
 use Rattle.jl_config.specs.Members.{IsFound, IsMemberBy, IsMember}
 use Rattle.jl_config.specs.MemberRows.{here_at, kept_here, found_place}
-use Rattle.jl_config.specs.Places.{place_named}
+use Rattle.jl_config.specs.Places.{place_named, kept_marked}
 use Rattle.jl_config.proofs.Lists.{same_item}
 use Rattle.jl_config.proofs.Finds.{NamedAt, named_shows, named_place}
 
@@ -22,6 +22,15 @@ unfound name ss e = by (place_named name ss) refl
     by : (f : Option ℕ) → place_named name ss ≡ f → place_named name ss ≡ None
     by None h = h
     by (Some p) h = let r = named_shows name ss p h in let f : NamedAt name ss p r.0 = r.1 in absurd (cc f.found)
+
+-- a place that is marked is given
+pub kept_shows : (marks : List Bool) (o : Option ℕ) (p : ℕ) → kept_marked marks o ≡ Some p → (o ≡ Some p) × (get_or marks p false ≡ true)
+kept_shows marks None p e = absurd cc
+kept_shows marks (Some q) p e = by (get_or marks q false) refl e
+  where
+    by : (b : Bool) → get_or marks q false ≡ b → cond b (Some q) None ≡ Some p → (Some q ≡ Some p) × (get_or marks p false ≡ true)
+    by true f g = let same : q ≡ p = cc in (g, ap (λ (k : ℕ). get_or marks k false) (sym same) ∙ f)
+    by false f g = absurd cc
 
 found_by : (b : Bool) (w : Scene) (s : Candidate) → IsMemberBy b w s → IsFound w s
 found_by true w s (earlier, m) = m.0

@@ -5,7 +5,7 @@ use Rattle.std.proofs.lemmas.List.{take_more}
 use Rattle.jl_prim.specs.declared.numbers.ConfigId.{ConfigId}
 use Rattle.jl_config.specs.declared.configuration.Read.{Read}
 use Rattle.jl_config.specs.declared.candidate.Candidate.{Candidate}
-use Rattle.jl_config.specs.Lineages.{is_reader, is_read_in, is_named, is_in}
+use Rattle.jl_config.specs.Lineages.{is_reader, is_read_in, is_named, is_in, is_outside}
 use Rattle.jl_config.specs.Located.{find_read, is_numbered}
 use Rattle.jl_config.specs.Places.{place_of_candidate}
 use Rattle.jl_config.specs.Tables.{first_where, places_where, first_of_places}
@@ -109,3 +109,6 @@ read_found config reader name rs ps e = ap (read_of rs) (ap (first_of_places (is
 
 pub candidate_found : (config : ConfigId) (name : List ℕ) (ss : List Candidate) (ps : List ℕ) → ps ≡ places_where (is_named name) 0 ss → first_of_places (is_in config) ss ps ≡ place_of_candidate config name ss
 candidate_found config name ss ps e = ap (first_of_places (is_in config) ss) e ∙ first_of_all (is_named name) (is_in config) ss ∙ sym (first_own config name ss)
+
+pub above_found : (id : ConfigId) (name : List ℕ) (ss : List Candidate) (ps : List ℕ) → ps ≡ places_where (is_named name) 0 ss → first_of_places (is_outside id) ss ps ≡ first_where (λ s. is_outside id s && is_named name s) ss
+above_found id name ss ps e = ap (first_of_places (is_outside id) ss) e ∙ first_of_all (is_named name) (is_outside id) ss

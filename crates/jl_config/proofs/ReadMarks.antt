@@ -1,5 +1,6 @@
 -- What a closure over the reads' rows marks is what a module reads.
-use Rattle.std.proofs.Common.{◌≡◌, ◌<◌, ℕ, zero, suc, List, [], ◌∷◌, length, get_or, slice_get, map, inl, inr, ⊎_elim, refl, sym, ◌∙◌, ap, subst, Contains, All, Option, Some, None, Bool, true, false, cond, not, ◌||◌, IsTrue, filter_map}
+use Rattle.std.proofs.Common.{◌≡◌, ◌<◌, ℕ, zero, suc, List, [], ◌∷◌, length, get_or, slice_get, map, inl, inr, ⊎_elim, refl, sym, ◌∙◌, ap, subst, Contains, All, Option, Some, None, Bool, true, false, cond, IsTrue, filter_map}
+use Rattle.std.specs.Option.{option_or}
 use Rattle.std.proofs.lemmas.List.{length-map}
 use Rattle.std.proofs.lemmas.Option.{slice_get_within, get_or_from_slice_get, slice_get_read}
 use Rattle.std.proofs.lemmas.List.Elements.{All-map, All-push, Contains-append_left, Contains-append_right, Contains-append_cases}
@@ -9,13 +10,13 @@ use Rattle.jl_closure.proofs.Always.{marks_exist}
 use Rattle.jl_logic.proofs.Rising.{contains_head, contains_tail, contains_cases, contains_nothing}
 use Rattle.jl_config.specs.declared.configuration.Read.{Read}
 use Rattle.jl_config.specs.declared.candidate.Candidate.{Candidate}
-use Rattle.jl_config.specs.Located.{Scene, candidate_name, is_here, find_read, read_candidate}
-use Rattle.jl_config.specs.Members.{IsMember, MeansHere, MeansBy, Means, IsPassedOn, ReadsBy, Reads, is_passed_on}
-use Rattle.jl_config.specs.Places.{place_named, place_of_candidate, read_place, own_place, AreMarks, AreReadBy}
-use Rattle.jl_config.specs.ReadRows.{is_eligible_candidate, is_eligible, eligible_place, meant_place, required_places, passed_place, passed_places, read_rows, read_starts}
+use Rattle.jl_config.specs.Located.{Scene, candidate_name, is_here, located_above, find_read, read_candidate}
+use Rattle.jl_config.specs.Members.{IsMember, MeansMember, MeansHere, MeansBy, Means, IsPassedOn, ReadsBy, Reads, is_passed_on}
+use Rattle.jl_config.specs.Places.{place_named, place_above, member_place, place_of_candidate, read_place, own_place, AreMarks, AreReadBy}
+use Rattle.jl_config.specs.ReadRows.{here_place, meant_place, required_places, passed_place, passed_places, read_rows, read_starts}
 use Rattle.jl_config.proofs.Lists.{into_filter_map, from_filter_map, into_map, from_map, row_at, same_item, all_of, mark_of}
-use Rattle.jl_config.proofs.MemberFinds.{member_found}
-use Rattle.jl_config.proofs.Finds.{NamedAt, named_shows, named_place, own_shows, own_place_of, named_first}
+use Rattle.jl_config.proofs.MemberFinds.{kept_shows, member_found}
+use Rattle.jl_config.proofs.Finds.{NamedAt, named_shows, named_place, own_shows, own_place_of, named_first, above_shows, above_place}
 
 -- a place, the module there, and that it is the first of its configuration and name
 pub record First (w : Scene) (p : ℕ) (b : Candidate) : Type 0 where
@@ -42,58 +43,50 @@ own_has : (w : Scene) (o : Option Read) (b : Candidate) → read_candidate w.can
 own_has w None b e = absurd cc
 own_has w (Some r) b e = let s = own_place_of r.config r.name w.candidates b e in (s.0, s.1.first, s.1.at)
 
--- what a place that is kept says
-eligible_shows : (w : Scene) (marks : List Bool) (o : Option ℕ) (p : ℕ) → eligible_place w marks o ≡ Some p → (o ≡ Some p) × (is_eligible w marks p ≡ true)
-eligible_shows w marks None p e = absurd cc
-eligible_shows w marks (Some q) p e = by (is_eligible w marks q) refl e
-  where
-    by : (b : Bool) → is_eligible w marks q ≡ b → cond b (Some q) None ≡ Some p → (Some q ≡ Some p) × (is_eligible w marks p ≡ true)
-    by true f g = let m : q ≡ p = cc in (g, subst (λ k. is_eligible w marks k ≡ true) m f)
-    by false f g = absurd cc
-
-eligible_member : (w : Scene) (mark : Bool) (b : Candidate) → is_eligible_candidate w mark (Some b) ≡ true → IsTrue (is_here w b) → mark ≡ true
-eligible_member w mark b e h = let f : (not true || mark) ≡ true = subst (λ t. (not t || mark) ≡ true) h e in f
-
 module _ (w : Scene) (marks : List Bool) (right : AreMarks w marks) where
-  here_shows : (name : List ℕ) (p : ℕ) → eligible_place w marks (place_named name w.candidates) ≡ Some p → (b : Candidate) × First w p b × MeansHere w name b
-  here_shows name p e =
-      let o = eligible_shows w marks (place_named name w.candidates) p e in
-      let s = named_shows name w.candidates p o.0 in
-      let opened : is_eligible_candidate w (get_or marks p false) (Some s.0) ≡ true = subst (λ (x : Option Candidate). is_eligible_candidate w (get_or marks p false) x ≡ true) s.1.at o.1 in (
-        s.0,
-        placed_first w name p s.0 o.0 s.1.at,
-        record {
-          meant = s.1.found;
-          member = λ h. (right.only p s.0 s.1.at (mark_of marks p (eligible_member w (get_or marks p false) s.0 opened h))).0;
-        },
-      )
+  member_shows : (name : List ℕ) (p : ℕ) → member_place w marks name ≡ Some p → (b : Candidate) × First w p b × MeansMember w name b
+  member_shows name p e =
+      let k = kept_shows marks (place_named name w.candidates) p e in
+      let s = named_shows name w.candidates p k.0 in
+      (s.0, placed_first w name p s.0 k.0 s.1.at, record { meant = s.1.found; member = (right.only p s.0 s.1.at (mark_of marks p k.1)).0 })
 
-  is_kept : (b : Candidate) (p : ℕ) → slice_get w.candidates p ≡ Some b → (IsTrue (is_here w b) → slice_get marks p ≡ Some true) → is_eligible w marks p ≡ true
-  is_kept b p at h = rw at (by (is_here w b) refl)
-    where
-      by : (t : Bool) → is_here w b ≡ t → (not t || get_or marks p false) ≡ true
-      by true e = get_or_from_slice_get marks p true false (h e)
-      by false e = refl
-
-  here_has : (name : List ℕ) (b : Candidate) → MeansHere w name b → (p : ℕ) × (eligible_place w marks (place_named name w.candidates) ≡ Some p) × (slice_get w.candidates p ≡ Some b)
-  here_has name b m =
+  member_has : (name : List ℕ) (b : Candidate) → MeansMember w name b → (p : ℕ) × (member_place w marks name ≡ Some p) × (slice_get w.candidates p ≡ Some b)
+  member_has name b m =
       let s = named_place name w.candidates b m.meant in
       let f : NamedAt name w.candidates s.0 b = s.1 in
-      let marked : IsTrue (is_here w b) → slice_get marks s.0 ≡ Some true = λ h. right.all s.0 b f.at (m.member h) (ap (λ n. place_named n w.candidates) f.named ∙ f.first) in
-      let kept : is_eligible w marks s.0 ≡ true = is_kept b s.0 f.at marked in
+      let marked : slice_get marks s.0 ≡ Some true = right.all s.0 b f.at m.member (ap (λ n. place_named n w.candidates) f.named ∙ f.first) in
+      let kept : get_or marks s.0 false ≡ true = get_or_from_slice_get marks s.0 true false marked in
       (s.0, rw (f.first, kept) refl, f.at)
+
+  no_member : (name : List ℕ) → member_place w marks name ≡ None → (m : Candidate) → MeansMember w name m → ⊥
+  no_member name e m h = let r = member_has name m h in absurd (cc r.1)
+
+  here_shows : (name : List ℕ) (p : ℕ) → here_place w marks name ≡ Some p → (b : Candidate) × First w p b × MeansHere w name b
+  here_shows name p e = by (member_place w marks name) refl e
+    where
+      by : (o : Option ℕ) → member_place w marks name ≡ o → option_or o (place_above w name) ≡ Some p → (b : Candidate) × First w p b × MeansHere w name b
+      by (Some q) f g = let s = member_shows name p (f ∙ g) in (s.0, s.1, inl s.2)
+      by None f g = let s = above_shows w name p g in (s.0, record { at = s.1.at; first = s.1.own }, inr (no_member name f, s.1.found))
+
+  here_has : (name : List ℕ) (b : Candidate) → MeansHere w name b → (p : ℕ) × (here_place w marks name ≡ Some p) × (slice_get w.candidates p ≡ Some b)
+  here_has name b h = ⊎_elim (λ m. let s = member_has name b m in (s.0, rw s.1 refl, s.2)) (λ a. above a.0 a.1 (member_place w marks name) refl) h
+    where
+      above : ((m : Candidate) → MeansMember w name m → ⊥) → located_above w name ≡ Some b → (o : Option ℕ) → member_place w marks name ≡ o
+          → (p : ℕ) × (here_place w marks name ≡ Some p) × (slice_get w.candidates p ≡ Some b)
+      above none found (Some q) e = let s = member_shows name q e in absurd (none s.0 s.2)
+      above none found None e = let s = above_place w name b found in (s.0, rw e s.1.first, s.1.at)
 
   pub meant_shows : (c : Candidate) (name : List ℕ) (p : ℕ) → meant_place w marks c name ≡ Some p → (b : Candidate) × First w p b × Means w c name b
   meant_shows c name p e = by (is_here w c) e
     where
-      by : (t : Bool) → cond t (eligible_place w marks (place_named name w.candidates)) (own_place w c name) ≡ Some p → (b : Candidate) × First w p b × MeansBy t w c name b
+      by : (t : Bool) → cond t (here_place w marks name) (own_place w c name) ≡ Some p → (b : Candidate) × First w p b × MeansBy t w c name b
       by true f = here_shows name p f
       by false f = meant_shows_own w (find_read c.config (candidate_name c) name w.reads) p f
 
   pub meant_has : (c : Candidate) (name : List ℕ) (b : Candidate) → Means w c name b → (p : ℕ) × (meant_place w marks c name ≡ Some p) × (slice_get w.candidates p ≡ Some b)
   meant_has c name b m = by (is_here w c) m
     where
-      by : (t : Bool) → MeansBy t w c name b → (p : ℕ) × (cond t (eligible_place w marks (place_named name w.candidates)) (own_place w c name) ≡ Some p) × (slice_get w.candidates p ≡ Some b)
+      by : (t : Bool) → MeansBy t w c name b → (p : ℕ) × (cond t (here_place w marks name) (own_place w c name) ≡ Some p) × (slice_get w.candidates p ≡ Some b)
       by true n = here_has name b n
       by false n = own_has w (find_read c.config (candidate_name c) name w.reads) b n
 
@@ -180,8 +173,12 @@ module _ (w : Scene) (marks : List Bool) (right : AreMarks w marks) where
 meant_within : (w : Scene) (marks : List Bool) (c : Candidate) (name : List ℕ) (p : ℕ) → meant_place w marks c name ≡ Some p → p < length w.candidates
 meant_within w marks c name p e = by (is_here w c) e
   where
-    by : (t : Bool) → cond t (eligible_place w marks (place_named name w.candidates)) (own_place w c name) ≡ Some p → p < length w.candidates
-    by true f = let o = eligible_shows w marks (place_named name w.candidates) p f in let s = named_shows name w.candidates p o.0 in slice_get_within w.candidates p s.0 s.1.at
+    by_member : (o : Option ℕ) → member_place w marks name ≡ o → option_or o (place_above w name) ≡ Some p → p < length w.candidates
+    by_member (Some q) f g = let s = named_shows name w.candidates p (kept_shows marks (place_named name w.candidates) p (f ∙ g)).0 in slice_get_within w.candidates p s.0 s.1.at
+    by_member None f g = let s = above_shows w name p g in slice_get_within w.candidates p s.0 s.1.at
+
+    by : (t : Bool) → cond t (here_place w marks name) (own_place w c name) ≡ Some p → p < length w.candidates
+    by true f = by_member (member_place w marks name) refl f
     by false f = let s = meant_shows_own w (find_read c.config (candidate_name c) name w.reads) p f in slice_get_within w.candidates p s.0 s.1.at
 
 each_place : {X : Type 0} (h : X → Option ℕ) (n : ℕ) → ((x : X) (p : ℕ) → h x ≡ Some p → p < n) → (xs : List X) → All (λ p. p < n) (filter_map h xs)

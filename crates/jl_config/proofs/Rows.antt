@@ -9,7 +9,7 @@ use Rattle.jl_prim.specs.declared.declaration.Observed.{Observed}
 use Rattle.jl_config.specs.declared.candidate.Candidate.{Candidate}
 use Rattle.jl_config.specs.declared.fault.ResolveFault.TheVariants.{NotFound, Cycle, SameName}
 use Rattle.jl_config.specs.Configurations.{Configuration}
-use Rattle.jl_config.specs.Located.{Asked, Scene, scene_of, preorder, ancestors, ancestor_numbers, located, own_meaning}
+use Rattle.jl_config.specs.Located.{Asked, Scene, scene_of, preorder, ancestors, ancestor_numbers, located, located_above, own_meaning}
 use Rattle.jl_config.specs.Members.{is_followed, is_passed_on, IsFound, IsJustified, Enumerated}
 use Rattle.jl_config.specs.Refusals.{fault_cmp, Exports}
 
@@ -64,6 +64,10 @@ two_ancestors = refl
 before_hides : located (scene_of (asked_with (module_of (codes "x") [] ∷ []) [])) (codes "x") ≡ Some (at 2 (module_of (codes "x") []))
 unfolding preorder
 before_hides = refl
+
+above_is_there : located_above (scene_of (asked_with (module_of (codes "x") [] ∷ []) [])) (codes "x") ≡ Some (at 1 x)
+unfolding preorder
+above_is_there = refl
 
 hides_after : located (scene_of (asked_with [] (module_of (codes "x") [] ∷ []))) (codes "x") ≡ Some (at 1 x)
 unfolding preorder
@@ -146,6 +150,10 @@ first_parent = refl
 first_of_others : located (scene_of (asked_of (number 2 ∷ number 1 ∷ []))) (codes "x") ≡ Some (at 2 x)
 unfolding preorder
 first_of_others = refl
+
+first_of_above : located_above (scene_of (asked_of (number 2 ∷ number 1 ∷ []))) (codes "x") ≡ Some (at 2 x)
+unfolding preorder
+first_of_above = refl
 
 -- to y of the second parent x means the x of its own configuration
 own_of_second : own_meaning (scene_of (asked_of (number 1 ∷ number 2 ∷ []))) (at 2 y) (codes "x") ≡ Some (at 2 x)

@@ -1,20 +1,15 @@
 -- Places that lead back to themselves (`Configuration.resolve`): the words of the code that looks for cycles. No public clause cites these.
-use Rattle.std.specs.Prelude.{◌≡◌, ℕ, List, [], ◌∷◌, map, Option, None, Some, Bool, false, slice_index_or, if◌then◌else◌, ◌⊎◌, ⊤}
+use Rattle.std.specs.Prelude.{◌≡◌, ℕ, List, [], ◌∷◌, map, Option, None, Some, Bool, slice_index_or, ◌⊎◌, ⊤}
 use Rattle.std.specs.List.{filter_map}
 use Rattle.jl_prim.specs.declared.declaration.Requires.{Requires}
 use Rattle.jl_closure.specs.Reached.{IsReached}
 use Rattle.jl_config.specs.declared.candidate.Candidate.{Candidate}
 use Rattle.jl_config.specs.Located.{Scene}
-use Rattle.jl_config.specs.Places.{place_named}
-
--- a place that is marked
-abbrev pub kept_marked : List Bool → Option ℕ → Option ℕ
-kept_marked marks None = None
-kept_marked marks (Some p) = if slice_index_or marks p false then Some p else None
+use Rattle.jl_config.specs.Places.{member_place}
 
 -- the place of the member that an entry means
 abbrev pub edge_place : Scene → List Bool → Requires → Option ℕ
-edge_place w marks r = kept_marked marks (place_named r.name w.candidates)
+edge_place w marks r = member_place w marks r.name
 
 -- the places of the members that the entries of a module mean
 abbrev pub edge_row : Scene → List Bool → Candidate → List ℕ

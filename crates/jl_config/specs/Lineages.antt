@@ -1,5 +1,5 @@
 -- What the ancestors have, as lists (`Configuration.resolve`): the words of the code that gathers them. No public clause cites these.
-use Rattle.std.specs.Prelude.{ℕ, List, map, Bool, ◌&&◌}
+use Rattle.std.specs.Prelude.{ℕ, List, map, Bool, not, ◌&&◌}
 use Rattle.std.specs.List.{flat_map}
 use Rattle.jl_prim.specs.declared.numbers.ConfigId.{ConfigId}
 use Rattle.jl_config.specs.declared.candidate.Candidate.{Candidate}
@@ -45,3 +45,7 @@ is_named name s = is_text (candidate_name s) name
 -- the module is of this configuration
 abbrev pub is_in : ConfigId → Candidate → Bool
 is_in config s = is_numbered s.config config
+
+-- the module is of another configuration
+abbrev pub is_outside : ConfigId → Candidate → Bool
+is_outside config s = not (is_in config s)

@@ -108,6 +108,14 @@ located w name = find_named name w.candidates
 abbrev pub is_here : Scene → Candidate → Bool
 is_here w s = is_numbered s.config w.id
 
+-- the modules of ancestors, from the first on
+abbrev pub modules_above : Scene → List Candidate
+modules_above w = filter (λ (s : Candidate). not (is_here w s)) w.candidates
+
+-- the module of the first ancestor that has the name
+abbrev pub located_above : Scene → List ℕ → Option Candidate
+located_above w name = find_named name (modules_above w)
+
 -- ---- what an ancestor's module reads
 
 -- the first of a configuration and a name

@@ -4,7 +4,7 @@ use Rattle.jl_prim.specs.declared.declaration.Requires.{Requires}
 use Rattle.jl_prim.specs.declared.declaration.Provides.{Provides}
 use Rattle.jl_logic.specs.Order.{is_text}
 use Rattle.jl_config.specs.declared.candidate.Candidate.{Candidate}
-use Rattle.jl_config.specs.Located.{Scene, candidate_name, located, is_here, own_meaning}
+use Rattle.jl_config.specs.Located.{Scene, candidate_name, located, located_above, is_here, own_meaning}
 
 -- ---- entries
 
@@ -80,10 +80,14 @@ IsMember w s = IsMemberBy w.binds w s
 
 -- ---- reads
 
--- to a member a name means the member that is located by it, or the module of an ancestor
-pub record MeansHere (w : Scene) (name : List ℕ) (s : Candidate) : Type 0 where
+-- the member of the set that is located by the name
+pub record MeansMember (w : Scene) (name : List ℕ) (s : Candidate) : Type 0 where
   pub meant : located w name ≡ Some s
-  pub member : IsTrue (is_here w s) → IsMember w s
+  pub member : IsMember w s
+
+-- to a member a name means the member that is located by it, or where there is none, the module of the first ancestor that has it
+abbrev pub MeansHere : Scene → List ℕ → Candidate → Type 0
+MeansHere w name s = MeansMember w name s ⊎ (((m : Candidate) → MeansMember w name m → ⊥) × (located_above w name ≡ Some s))
 
 -- to a module that is here, or is an ancestor's, a name means this module
 abbrev pub MeansBy : Bool → Scene → Candidate → List ℕ → Candidate → Type 0

@@ -1,5 +1,5 @@
 -- Modules by their places in sight (`Configuration.resolve`): the words in which the parts of a resolution speak. No public clause cites these.
-use Rattle.std.specs.Prelude.{◌≡◌, ℕ, ◌+◌, ◌<◌, List, [], ◌∷◌, length, Option, None, Some, Bool, true, ◌&&◌, Contains, All, slice_get, if◌then◌else◌}
+use Rattle.std.specs.Prelude.{◌≡◌, ℕ, ◌+◌, ◌<◌, List, [], ◌∷◌, length, Option, None, Some, Bool, true, false, ◌&&◌, Contains, All, slice_get, slice_index_or, if◌then◌else◌}
 use Rattle.std.specs.List.{filter_map}
 use Rattle.std.specs.Option.{option_map}
 use Rattle.std.specs.declared.cmp.Ordering.{Ordering}
@@ -9,15 +9,21 @@ use Rattle.jl_config.specs.declared.configuration.Read.{Read}
 use Rattle.jl_config.specs.declared.candidate.Candidate.{Candidate}
 use Rattle.jl_config.specs.declared.fault.ResolveFault.{ResolveFault}
 use Rattle.jl_config.specs.declared.fault.ResolveFault.TheVariants.{NotFound, Cycle, SameName, SamePackage, OwnPackage, ServicePackage}
+use Rattle.jl_config.specs.Lineages.{is_named, is_outside}
 use Rattle.jl_config.specs.Located.{Scene, candidate_name, is_numbered, find_read}
 use Rattle.jl_config.specs.Members.{IsMember, Reads}
 use Rattle.jl_config.specs.Orders.{candidate_cmp}
 use Rattle.jl_config.specs.Refusals.{IsMissing, IsOnCycle, IsSameName, IsSamePackage, IsOwnPackage, IsServicePackage}
+use Rattle.jl_config.specs.Tables.{first_where}
 
 -- the place of the first of a name
 abbrev pub place_named : List ℕ → List Candidate → Option ℕ
 place_named name [] = None
 place_named name (s ∷ ss) = if is_text (candidate_name s) name then Some 0 else option_map (λ p. p + 1) (place_named name ss)
+
+-- the place of the module of the first ancestor that has the name
+abbrev pub place_above : Scene → List ℕ → Option ℕ
+place_above w name = first_where (λ s. is_outside w.id s && is_named name s) w.candidates
 
 -- the place of the first of a configuration and a name
 abbrev pub place_of_candidate : ConfigId → List ℕ → List Candidate → Option ℕ
@@ -33,6 +39,15 @@ read_place ss (Some r) = place_of_candidate r.config r.name ss
 -- the place of what a name means to an ancestor's module
 abbrev pub own_place : Scene → Candidate → List ℕ → Option ℕ
 own_place w s name = read_place w.candidates (find_read s.config (candidate_name s) name w.reads)
+
+-- a place that is marked
+abbrev pub kept_marked : List Bool → Option ℕ → Option ℕ
+kept_marked marks None = None
+kept_marked marks (Some p) = if slice_index_or marks p false then Some p else None
+
+-- the place of the member that is located by a name
+abbrev pub member_place : Scene → List Bool → List ℕ → Option ℕ
+member_place w marks name = kept_marked marks (place_named name w.candidates)
 
 -- the modules at places
 abbrev pub candidates_at : Scene → List ℕ → List Candidate

@@ -1,6 +1,7 @@
 -- What a name means as a place, and the readings of a set (`Configuration.resolve`): the words in which reads are found. No public clause cites these.
-use Rattle.std.specs.Prelude.{◌≡◌, ℕ, ◌<◌, List, [], ◌∷◌, ◌++◌, length, map, Option, None, Some, Bool, false, not, ◌||◌, Contains, slice_get, slice_index_or, if◌then◌else◌}
+use Rattle.std.specs.Prelude.{◌≡◌, ℕ, ◌<◌, List, [], ◌∷◌, ◌++◌, length, map, Option, None, Some, Bool, false, Contains, slice_get, slice_index_or, if◌then◌else◌}
 use Rattle.std.specs.List.{filter_map}
+use Rattle.std.specs.Option.{option_or}
 use Rattle.std.specs.Ordering.{ordering_then, nat_cmp}
 use Rattle.std.specs.declared.cmp.Ordering.{Ordering}
 use Rattle.jl_prim.specs.declared.numbers.ConfigId.{ConfigId}
@@ -12,27 +13,17 @@ use Rattle.jl_config.specs.declared.readings.Reading.{Reading}
 use Rattle.jl_config.specs.declared.readings.Placed.{Placed}
 use Rattle.jl_config.specs.Located.{Scene, candidate_name, is_here}
 use Rattle.jl_config.specs.Members.{is_passed_on, IsMember}
-use Rattle.jl_config.specs.Places.{place_named, own_place, AreReadBy}
+use Rattle.jl_config.specs.Places.{place_above, member_place, own_place, AreReadBy}
 
 -- ---- what a name means
 
--- a module of an ancestor, or one whose mark is set
-abbrev pub is_eligible_candidate : Scene → Bool → Option Candidate → Bool
-is_eligible_candidate w mark None = false
-is_eligible_candidate w mark (Some s) = not (is_here w s) || mark
-
--- likewise the module at a place
-abbrev pub is_eligible : Scene → List Bool → ℕ → Bool
-is_eligible w marks p = is_eligible_candidate w (slice_index_or marks p false) (slice_get w.candidates p)
-
--- a place whose module is one of these
-abbrev pub eligible_place : Scene → List Bool → Option ℕ → Option ℕ
-eligible_place w marks None = None
-eligible_place w marks (Some p) = if is_eligible w marks p then Some p else None
+-- the place of what a name means to a member
+abbrev pub here_place : Scene → List Bool → List ℕ → Option ℕ
+here_place w marks name = option_or (member_place w marks name) (place_above w name)
 
 -- the place of what a name means to the module c
 abbrev pub meant_place : Scene → List Bool → Candidate → List ℕ → Option ℕ
-meant_place w marks c name = if is_here w c then eligible_place w marks (place_named name w.candidates) else own_place w c name
+meant_place w marks c name = if is_here w c then here_place w marks name else own_place w c name
 
 -- the places of what c requires
 abbrev pub required_places : Scene → List Bool → Candidate → List ℕ

@@ -2,7 +2,7 @@
 
 ghost use Rattle.std.specs.Prelude.{◌≡◌, ◌++◌, ◌<◌, ◌↔◌, length, All, IsTrue, IfOk, OnOk, Some, slice_get};
 ghost use Rattle.std.specs.List.{filter_map};
-ghost use Rattle.jl_config.specs.Cycles.{edge_place, edge_row, edge_rows, kept_marked, LeadsBack, IsFirstOnCycle};
+ghost use Rattle.jl_config.specs.Cycles.{edge_place, edge_row, edge_rows, LeadsBack, IsFirstOnCycle};
 ghost use Rattle.jl_config.specs.Places.{AreMarks, AreMembers, CycleFault, IsLeastSome};
 ghost use Rattle.jl_config.specs.Refusals.{fault_cmp};
 ghost use Rattle.jl_config.specs.Located.{candidate_name};

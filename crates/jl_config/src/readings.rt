@@ -2,11 +2,11 @@
 
 ghost use Rattle.std.specs.Prelude.{◌≡◌, ◌<◌, ◌++◌, length, IfOk, OnOk, Some, false, slice_get, slice_index_or};
 ghost use Rattle.jl_config.specs.Members.{is_passed_on};
-ghost use Rattle.jl_config.specs.Places.{AreMarks, AreMembers};
+ghost use Rattle.jl_config.specs.Places.{member_place, AreMarks, AreMembers};
 ghost use Rattle.std.specs.List.{filter_map};
 ghost use Rattle.std.specs.Option.{option_to_list};
 ghost use Rattle.jl_closure.specs.Reached.{AreMarksOf};
-ghost use Rattle.jl_config.specs.ReadRows.{is_eligible, eligible_place, meant_place, required_places, passed_place, passed_places, read_rows, read_starts, marked_place, AreByName, AreReadings};
+ghost use Rattle.jl_config.specs.ReadRows.{here_place, meant_place, required_places, passed_place, passed_places, read_rows, read_starts, marked_place, AreByName, AreReadings};
 
 use crate::candidate::Candidate;
 use crate::members::Members;
@@ -86,28 +86,26 @@ fn push_some(places: &mut Vec<usize>, place: Option<usize>) -> Result<(), CopyEn
     Ok(())
 }
 
-/// Whether the module at a place is an ancestor's or marked.
-fn is_eligible(scene: &Scene, marks: &[bool], place: usize) -> bool
-    ensures { result ≡ is_eligible scene.now marks.now place }
+/// The place of the member that is located by a name.
+fn place_of_member(scene: &Scene, marks: &[bool], name: &Name) -> Option<usize>
+    ensures { result ≡ member_place scene.now marks.now name.now }
 {
-    match scene.candidates().get(place) {
-        None => false,
-        Some(candidate) => !scene.is_here(candidate) || is_marked(marks, place),
+    let place = scene.named(name)?;
+    if is_marked(marks, place) {
+        Some(place)
+    } else {
+        None
     }
 }
 
-fn place_if_eligible(scene: &Scene, marks: &[bool], place: Option<usize>) -> Option<usize>
-    ensures { result ≡ eligible_place scene.now marks.now place }
+/// The place of the module that a name means to a member: the member that is located by it, or else the module
+/// of the first ancestor that has it.
+fn place_meant_here(scene: &Scene, marks: &[bool], name: &Name) -> Option<usize>
+    ensures { result ≡ here_place scene.now marks.now name.now }
 {
-    match place {
-        None => None,
-        Some(place) => {
-            if is_eligible(scene, marks, place) {
-                Some(place)
-            } else {
-                None
-            }
-        }
+    match place_of_member(scene, marks, name) {
+        None => scene.above(name),
+        member => member,
     }
 }
 
@@ -116,7 +114,7 @@ fn place_meant(scene: &Scene, marks: &[bool], candidate: &Candidate, name: &Name
     ensures { result ≡ meant_place scene.now marks.now candidate.now name.now }
 {
     if scene.is_here(candidate) {
-        place_if_eligible(scene, marks, scene.named(name))
+        place_meant_here(scene, marks, name)
     } else {
         scene.own(candidate, name)
     }

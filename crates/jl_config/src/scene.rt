@@ -5,9 +5,9 @@ ghost use Rattle.std.specs.Option.{option_copied, option_map_or};
 ghost use Rattle.std.specs.Cmp.Lexicographic.{pointwise};
 ghost use Rattle.indexmap.specs.IndexMap.{get};
 ghost use Rattle.jl_prim.specs.Limits.{most_modules};
-ghost use Rattle.jl_config.specs.Lineages.{is_reader, is_read_in, is_named, is_in};
+ghost use Rattle.jl_config.specs.Lineages.{is_reader, is_read_in, is_named, is_in, is_outside};
 ghost use Rattle.jl_config.specs.Located.{scene_of, is_here, find_read};
-ghost use Rattle.jl_config.specs.Places.{place_named, place_of_candidate, own_place};
+ghost use Rattle.jl_config.specs.Places.{place_named, place_above, place_of_candidate, own_place};
 ghost use Rattle.jl_config.specs.Resolves.{asked};
 ghost use Rattle.jl_config.specs.Tables.{listed, places_where, first_of_places};
 
@@ -123,6 +123,14 @@ impl Scene {
         ensures { result ≡ place_named name.now self.now.candidates }
     {
         self.places.get(name).copied()
+    }
+
+    /// The place of the module of the first ancestor that has the name.
+    pub fn above(&self, name: &Name) -> Option<usize>
+        ensures { result ≡ place_above self.now name.now }
+    {
+        let places = self.named.get(name)?;
+        first_outside(self.candidates.as_slice(), places.as_slice(), self.id)
     }
 
     /// The place of the module that a name means to a module of an ancestor: the one that its own
@@ -245,6 +253,27 @@ fn is_in_at(candidates: &[Candidate], place: usize, config: ConfigId) -> bool
 {
     match candidates.get(place) {
         Some(candidate) => candidate.config.0 == config.0,
+        None => false,
+    }
+}
+
+/// Of some places the first of a module that is not of the configuration.
+fn first_outside(candidates: &[Candidate], places: &[usize], config: ConfigId) -> Option<usize>
+    ensures { result ≡ first_of_places (is_outside config) candidates.now places.now }
+{
+    for place in places {
+        if is_outside_at(candidates, *place, config) {
+            return Some(*place);
+        }
+    }
+    None
+}
+
+fn is_outside_at(candidates: &[Candidate], place: usize, config: ConfigId) -> bool
+    ensures { result ≡ option_map_or (is_outside config) (slice_get candidates.now place) false }
+{
+    match candidates.get(place) {
+        Some(candidate) => candidate.config.0 != config.0,
         None => false,
     }
 }

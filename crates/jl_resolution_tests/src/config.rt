@@ -261,7 +261,7 @@ const PARENTS: [[&str; 5]; 10] = [
         "module x",
         "module r; requires static x",
         "r",
-        "r: r;",
+        "r: r x;",
     ],
     [ABOVE, "", "module r; requires z", "r", "NotFound z r"],
 ];
@@ -553,7 +553,7 @@ const TWO: &str =
     "0: module x | module y1; requires transitive x + 0: module x | module y2; requires transitive x";
 
 /// Known configurations, the numbers of the parents, what the before finder has, the roots, the answer.
-const SEVERAL: [[&str; 5]; 13] = [
+const SEVERAL: [[&str; 5]; 14] = [
     [
         TWO,
         "1 2",
@@ -578,6 +578,13 @@ const SEVERAL: [[&str; 5]; 13] = [
         "SameName r x",
     ],
     [TWO, "1 2", "module x", "x", "x x@3;"],
+    [
+        TWO,
+        "2 1",
+        "module x | module r; requires static x",
+        "r",
+        "r r@3;r x@2;",
+    ],
     [
         "0: module x + 1: module a; requires transitive x + 1: module b; requires transitive x",
         "2 3",

@@ -1,4 +1,4 @@
-use Rattle.std.proofs.Common.{◌<◌, ◌≤◌, ◌≡◌, ◌++◌, ◌∷◌, [], true, false, refl, sym, ◌∙◌, ap, arith, rules, slice_index_or, take}
+use Rattle.std.proofs.Common.{◌<◌, ◌≤◌, ◌≡◌, ◌++◌, ◌∷◌, [], true, refl, sym, ◌∙◌, ap, arith, rules, slice_index_or, take}
 use Rattle.jl_prim.specs.declared.numbers.ConfigId.{ConfigId}
 use Rattle.jl_config.specs.Walked.{Visited, IsClosedBelow}
 use Rattle.jl_config.proofs.Visits.{not_begun, passes_by, comes_to, still_closed, lower, is_next}
