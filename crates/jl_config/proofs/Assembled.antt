@@ -214,9 +214,13 @@ rises_mapped : (ss : List Candidate) → RisesBy candidate_cmp ss → RisesBy mo
 rises_mapped [] up = tt
 rises_mapped (s ∷ ss) up = (above_mapped s ss up.0, rises_mapped ss up.1)
 
+-- modules at the places of a set stand in name order
+pub modules_rise : (w : Scene) (ps : List ℕ) (os : List Observed) → AreMembers w ps → os ≡ map observed_of (candidates_at w ps) → RisesBy module_cmp os
+modules_rise w ps os m e = subst (RisesBy module_cmp) (sym e) (rises_mapped (candidates_at w ps) m.rise)
+
 pub modules_by_places : (q : Asked) (ps : List ℕ) (os : List Observed) → AreMembers (scene_of q) ps → os ≡ map observed_of (candidates_at (scene_of q) ps) → AreModules q os
 modules_by_places q ps os m e = subst (AreModules q) (sym e) (record {
-  rise = rises_mapped (candidates_at (scene_of q) ps) m.rise;
+  rise = modules_rise (scene_of q) ps (map observed_of (candidates_at (scene_of q) ps)) m refl;
   only = λ o c.
       let r = from_map observed_of (candidates_at (scene_of q) ps) o c in
       let here : IsMember (scene_of q) r.0 = members_at (scene_of q) ps m r.0 r.1 in

@@ -1,6 +1,8 @@
 //! Configurations: modules and what each reads.
 
 ghost use Rattle.std.specs.Prelude.{◌≡◌, [], ◌∷◌};
+ghost use Rattle.jl_logic.specs.Order.{RisesBy};
+ghost use Rattle.jl_config.specs.Orders.{module_cmp};
 
 use jl_prim::{ConfigId, Copied, CopyEnd, Items, Name, Observed};
 use std::alloc::Global;
@@ -35,10 +37,14 @@ pub struct Configuration {
 
 impl Model for Configuration {
     ghost use Rattle.jl_config.specs.Configurations as seen;
+    ghost use Rattle.jl_logic.specs.Order.{RisesBy};
+    ghost use Rattle.jl_config.specs.Orders.{module_cmp};
 
     ghost Value = { seen.Configuration };
 
     ghost view = { λ c. record { id = c.id; parents = c.parents; modules = c.modules; reads = c.reads } };
+
+    ghost invariant = { λ c. RisesBy module_cmp c.modules };
 }
 
 impl Configuration {
@@ -54,13 +60,14 @@ impl Configuration {
         }
     }
 
-    /// A configuration of these parts.
+    /// A configuration of these parts. The modules are in the order of their names.
     pub fn from_parts(
         id: ConfigId,
         parents: Items<ConfigId>,
         modules: Items<Observed>,
         reads: Items<Read>,
     ) -> Configuration
+        requires { RisesBy module_cmp modules }
         ensures { result ≡ record { id = id; parents = parents; modules = modules; reads = reads } }
     {
         Configuration {

@@ -147,6 +147,7 @@ fn configuration_of(
     members: &Members,
     readings: &[Reading],
 ) -> Result<Configuration, CopyEnd>
+    requires places { AreMembers scene.now members.now.places.items }
     requires readings { AreReadings scene.now readings.now }
     requires apart { (f : ResolveFault) → SameNameFault scene.now f → ⊥ }
     ensures number { IfOk result (λ g. g.id ≡ id) }
