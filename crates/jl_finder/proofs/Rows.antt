@@ -10,7 +10,7 @@ use Rattle.jl_prim.specs.declared.declaration.Declaration.{Declaration}
 use Rattle.jl_modinfo.specs.Reading.{info_of}
 use Rattle.jl_logic.specs.Order.{is_text}
 use Rattle.std.specs.List.{flat_map}
-use Rattle.jl_modinfo.specs.declared.fault.InfoFault.{InfoFault}
+use Rattle.jl_tables.specs.declared.fault.InfoFault.{InfoFault}
 use Rattle.jl_finder.specs.Asking.{places_of, reads_of, reads_of_elements, reads_of_entries}
 use Rattle.jl_finder.proofs.Members.{is_name}
 

@@ -5,7 +5,7 @@ use Rattle.jl_logic.specs.Counts.{raised}
 use Rattle.jl_prim.specs.declared.declaration.Observed.{Observed}
 use Rattle.jl_tree.specs.declared.entry.Entry.{Entry}
 use Rattle.jl_tree.specs.Files.{File}
-use Rattle.jl_modinfo.specs.declared.fault.InfoFault.TheVariants as infos
+use Rattle.jl_tables.specs.declared.fault.InfoFault.TheVariants as infos
 use Rattle.jl_finder.specs.declared.fault.FindFault.{FindFault}
 use Rattle.jl_finder.specs.declared.fault.FindFault.TheVariants as finds
 use Rattle.jl_finder.specs.Paths.{path_in, is_archive}

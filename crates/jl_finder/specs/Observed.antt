@@ -8,7 +8,7 @@ use Rattle.jl_prim.specs.declared.declaration.Declaration.{Declaration}
 use Rattle.jl_prim.specs.declared.declaration.Observed.{Observed}
 use Rattle.jl_tree.specs.declared.entry.Entry.{Entry}
 use Rattle.jl_tree.specs.Files.{File, file_at}
-use Rattle.jl_modinfo.specs.declared.fault.InfoFault.{InfoFault}
+use Rattle.jl_tables.specs.declared.fault.InfoFault.{InfoFault}
 use Rattle.jl_modinfo.specs.Reading.{info_of}
 use Rattle.jl_finder.specs.declared.fault.FindFault.{FindFault}
 use Rattle.jl_finder.specs.declared.fault.FindFault.TheVariants as finds

@@ -2,8 +2,8 @@
 use Rattle.std.specs.Fmt.{digits}
 use Rattle.std.specs.Prelude.{◌≡◌, ℕ, List, [], ◌∷◌, None, Some, Ok, Err, codes, refl}
 use Rattle.jl_prim.specs.declared.declaration.Observed.{Observed}
-use Rattle.jl_modinfo.specs.declared.fault.InfoFault.{InfoFault}
-use Rattle.jl_modinfo.specs.declared.fault.InfoFault.TheVariants as infos
+use Rattle.jl_tables.specs.declared.fault.InfoFault.{InfoFault}
+use Rattle.jl_tables.specs.declared.fault.InfoFault.TheVariants as infos
 use Rattle.jl_config.specs.declared.configuration.Read.{Read}
 use Rattle.jl_config.specs.declared.fault.ResolveFault.TheVariants as resolves
 use Rattle.jl_finder.specs.declared.fault.FindFault.TheVariants as finds

@@ -3,8 +3,8 @@ use Rattle.std.specs.Prelude.{ℕ, List, [], ◌∷◌, ◌++◌, map, filter, O
 use Rattle.std.specs.List.{flat_map}
 use Rattle.std.specs.Fmt.{decimal}
 use Rattle.jl_prim.specs.declared.declaration.Observed.{Observed}
-use Rattle.jl_modinfo.specs.declared.fault.InfoFault.{InfoFault}
-use Rattle.jl_modinfo.specs.declared.fault.InfoFault.TheVariants as infos
+use Rattle.jl_tables.specs.declared.fault.InfoFault.{InfoFault}
+use Rattle.jl_tables.specs.declared.fault.InfoFault.TheVariants as infos
 use Rattle.jl_config.specs.declared.configuration.Read.{Read}
 use Rattle.jl_config.specs.declared.fault.ResolveFault.{ResolveFault}
 use Rattle.jl_config.specs.declared.fault.ResolveFault.TheVariants as resolves

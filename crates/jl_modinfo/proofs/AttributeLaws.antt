@@ -21,9 +21,10 @@ use Rattle.jl_modinfo.specs.declared.attribute.Form.{Form}
 use Rattle.jl_modinfo.specs.declared.attribute.Form.TheVariants as forms
 use Rattle.jl_modinfo.specs.declared.attribute.Part.{Part}
 use Rattle.jl_modinfo.specs.declared.attribute.Part.TheVariants as parts
-use Rattle.jl_modinfo.specs.Faults.{short}
-use Rattle.jl_modinfo.specs.Meaning.{package_named}
-use Rattle.jl_modinfo.specs.Info.{Body, Names, NameAll, body_bytes, contents}
+use Rattle.jl_tables.specs.Faults.{short}
+use Rattle.jl_tables.specs.Meaning.{package_named}
+use Rattle.jl_modinfo.specs.Info.{Body, body_bytes, contents}
+use Rattle.jl_tables.specs.Spelling.{Names, NameAll}
 use Rattle.jl_modinfo.specs.Reading.{form_of, is_form, part_form, part_at, is_first, reader_of, module_in, packages_in, main_in, attributes_in, attributes_at, module_at, packages_at, main_at}
 use Rattle.jl_modinfo.proofs.BodyLaws.{Declares, module_stands, module_reads, packages_stand, packages_read, main_stands, main_reads}
 

@@ -7,17 +7,20 @@ use Rattle.jl_reading.proofs.Steps.{bind_ok, ok_is, bind_to, else_ok}
 use Rattle.jl_prim.specs.declared.declaration.Grant.{Grant}
 use Rattle.jl_pool.specs.declared.entry.Entry.{Entry}
 use Rattle.jl_modinfo.specs.declared.module.Module.{Module}
-use Rattle.jl_modinfo.specs.declared.fault.InfoFault.TheVariants as faults
-use Rattle.jl_modinfo.specs.Faults.{short}
-use Rattle.jl_modinfo.specs.Meaning.{module_named, package_named, version_named, is_set}
+use Rattle.jl_tables.specs.declared.fault.InfoFault.TheVariants as faults
+use Rattle.jl_tables.specs.Faults.{short}
+use Rattle.jl_tables.specs.Meaning.{module_named, package_named, version_named, is_set}
 use Rattle.jl_pool.specs.Pool.{class_named}
 use Rattle.jl_classfile.specs.Spelling.{IsTable}
-use Rattle.jl_modinfo.specs.Info.{Body, GrantRow, Names, NameAll, IsRequires, IsGrant, IsProvides, requires_bytes, grant_bytes, provides_bytes, body_bytes}
+use Rattle.jl_modinfo.specs.Info.{Body, body_bytes}
+use Rattle.jl_tables.specs.Spelling.{GrantRow, Names, NameAll, IsRequires, IsGrant, IsProvides, requires_bytes, grant_bytes, provides_bytes}
 use Rattle.jl_logic.specs.Lists.{Match}
-use Rattle.jl_modinfo.specs.Reading.{name_at, names_at, version_at, requires_table_at, grants_at, opened_named, provides_table_at, ended, module_at, packages_at, main_at}
+use Rattle.jl_tables.specs.Reading.{name_at, names_at, version_at, requires_table_at, grants_at, provides_table_at}
+use Rattle.jl_tables.specs.Meaning.{opened_named}
+use Rattle.jl_modinfo.specs.Reading.{ended, module_at, packages_at, main_at}
 use Rattle.jl_reading.proofs.Standing.{number_in, number_read, join, first, second, ends_at}
-use Rattle.jl_modinfo.proofs.TableLaws.{table_as, is_table}
-use Rattle.jl_modinfo.proofs.EntryLaws.{name_stands, name_reads, version_stands, version_reads, names_stand, names_read, requires_table_stands, requires_table_reads, GrantBy, granted_package, grants_stand, grants_read, provides_table_stands, provides_table_reads, required_name, provided_service}
+use Rattle.jl_tables.proofs.TableLaws.{table_as, is_table}
+use Rattle.jl_tables.proofs.EntryLaws.{name_stands, name_reads, version_stands, version_reads, names_stand, names_read, requires_table_stands, requires_table_reads, GrantBy, granted_package, grants_stand, grants_read, provides_table_stands, provides_table_reads, required_name, provided_service}
 
 -- ---- all of the bytes
 

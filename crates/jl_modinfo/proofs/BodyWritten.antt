@@ -19,11 +19,14 @@ use Rattle.jl_pool.specs.declared.constant.Constant.{Constant}
 use Rattle.jl_pool.specs.declared.entry.Entry.{Entry}
 use Rattle.jl_pool.specs.declared.constant.Constant.TheVariants as constants
 use Rattle.jl_pool.specs.Builder.{has, index_in, pool_of, AreKept}
-use Rattle.jl_modinfo.specs.Meaning.{module_named, version_named, is_set, targets_of}
+use Rattle.jl_tables.specs.Meaning.{module_named, version_named, is_set, targets_of}
 use Rattle.jl_pool.specs.Pool.{class_named}
-use Rattle.jl_modinfo.specs.Info.{requires_bytes, grant_bytes, provides_bytes, body_bytes, Names, NameAll, IsRequires, IsGrant, IsProvides, IsBody}
-use Rattle.jl_modinfo.specs.Writing.{targets, IsFineGrant, IsFineProvides, KeepsRules}
-use Rattle.jl_modinfo.specs.Layout.{module_constant, class_constant, required_constant, grant_constants, provides_constants, front_constants, table_constants, back_constants, named_constants, version_constants, module_index, class_index, version_index, requires_row, grant_row, provides_row, body_of, counted_by, class_bytes, package_bytes, requires_written, grant_written, provides_written, body_written, AreFew}
+use Rattle.jl_tables.specs.Spelling.{requires_bytes, grant_bytes, provides_bytes, Names, NameAll, IsRequires, IsGrant, IsProvides}
+use Rattle.jl_modinfo.specs.Info.{body_bytes, IsBody}
+use Rattle.jl_tables.specs.Layout.{targets}
+use Rattle.jl_modinfo.specs.Writing.{IsFineGrant, IsFineProvides, KeepsRules}
+use Rattle.jl_modinfo.specs.Layout.{module_constant, class_constant, required_constant, grant_constants, provides_constants, front_constants, table_constants, back_constants, named_constants, version_constants, version_index, body_of, body_written, AreFew}
+use Rattle.jl_tables.specs.Layout.{module_index, class_index, requires_row, grant_row, provides_row, counted_by, class_bytes, package_bytes, requires_written, grant_written, provides_written}
 use Rattle.jl_modinfo.proofs.AllLaws.{all_front, all_back, all_of, each_of, all_both}
 use Rattle.jl_modinfo.proofs.IndexLaws.{class_there, module_there, package_there, text_there, index_is, small}
 

@@ -12,8 +12,8 @@ use Rattle.jl_pool.specs.Spelling.{StandsPool}
 use Rattle.jl_pool.proofs.Whole.{pool_stands, pool_again}
 use Rattle.jl_modinfo.specs.declared.module.Module.{Module}
 use Rattle.jl_modinfo.specs.declared.attribute.FileParts.{FileParts}
-use Rattle.jl_modinfo.specs.declared.fault.InfoFault.TheVariants as faults
-use Rattle.jl_modinfo.specs.Faults.{pool_or}
+use Rattle.jl_tables.specs.declared.fault.InfoFault.TheVariants as faults
+use Rattle.jl_tables.specs.Faults.{pool_or}
 use Rattle.jl_modinfo.specs.Rules.{keeps_base_rule, missing_package}
 use Rattle.jl_classfile.specs.Spelling.{Attribute, attribute_bytes, AtMostOne}
 use Rattle.jl_modinfo.specs.Info.{IsInfo, ArePackages, IsMain, body_bytes, contents}

@@ -12,7 +12,7 @@ use Rattle.jl_pool.specs.declared.constant.Constant.TheVariants as constants
 use Rattle.jl_pool.specs.declared.entry.Entry.{Entry}
 use Rattle.jl_pool.specs.declared.entry.Entry.TheVariants as entries
 use Rattle.jl_names.specs.Names.{names_a_class}
-use Rattle.jl_modinfo.specs.Meaning.{package_named}
+use Rattle.jl_tables.specs.Meaning.{package_named}
 use Rattle.jl_pool.specs.Builder.{has, pool_of, entries_of, AreKept}
 use Rattle.jl_pool.specs.Pool.{text_of}
 use Rattle.jl_pool.specs.Spelling.{entry_bytes}
@@ -21,8 +21,9 @@ use Rattle.jl_classfile.specs.Spelling.{Attribute, attribute_bytes, AttributeFit
 use Rattle.jl_modinfo.specs.Info.{back_bytes, body_bytes, contents, IsMain, IsInfo}
 use Rattle.jl_modinfo.specs.Writing.{members, KeepsRules, IsFineMain, write_told, accepted}
 use Rattle.jl_logic.specs.Answers.{Gives}
-use Rattle.jl_modinfo.specs.declared.fault.InfoWriteFault.{InfoWriteFault}
-use Rattle.jl_modinfo.specs.Layout.{package_constant, main_constants, front_constants, table_constants, back_constants, named_constants, class_index, package_index, body_of, named_attribute, main_attributes, attributes_of, class_bytes, package_bytes, attribute_written, main_written, attribute_count, attributes_written, class_written, front_written, pool_written, file_written, AreFew}
+use Rattle.jl_tables.specs.declared.fault.InfoWriteFault.{InfoWriteFault}
+use Rattle.jl_modinfo.specs.Layout.{package_constant, main_constants, front_constants, table_constants, back_constants, named_constants, body_of, named_attribute, main_attributes, attributes_of, attribute_written, main_written, attribute_count, attributes_written, class_written, front_written, pool_written, file_written, AreFew}
+use Rattle.jl_tables.specs.Layout.{class_index, package_index, class_bytes, package_bytes}
 use Rattle.jl_modinfo.proofs.IndexLaws.{class_there, package_there, class_text_there, text_there, small}
 use Rattle.jl_modinfo.proofs.SizeLaws.{small_body, small_packages}
 use Rattle.jl_modinfo.proofs.AllLaws.{all_front, all_back}

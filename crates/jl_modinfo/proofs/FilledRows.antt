@@ -17,7 +17,8 @@ use Rattle.jl_classfile.specs.Attributes as walk
 use Rattle.jl_names.specs.Names as names
 use Rattle.jl_modinfo.specs.Info.{Body, body_bytes, back_bytes}
 use Rattle.jl_modinfo.specs.Writing.{KeepsRules, members}
-use Rattle.jl_modinfo.specs.Reading.{info_of, front_at, empty_class_at, this_at, zero_at, attributes_at, module_at, packages_at, main_at, name_at, new_name_at, names_at, version_at, requires_at, requires_table_at, grant_at, grants_at, implementations_at, provides_at, provides_table_at}
+use Rattle.jl_modinfo.specs.Reading.{info_of, front_at, empty_class_at, this_at, zero_at, attributes_at, module_at, packages_at, main_at}
+use Rattle.jl_tables.specs.Reading.{name_at, new_name_at, names_at, version_at, requires_at, requires_table_at, grant_at, grants_at, implementations_at, provides_at, provides_table_at}
 
 abbrev filled : Declaration
 filled = record {

@@ -9,8 +9,8 @@ use Rattle.jl_pool.specs.declared.entry.Entry.{Entry}
 use Rattle.jl_classfile.specs.Front.{is_version, front_bytes}
 use Rattle.jl_classfile.specs.Front as framing
 use Rattle.jl_classfile.proofs.FrontLaws as laws
-use Rattle.jl_modinfo.specs.declared.fault.InfoFault.TheVariants as faults
-use Rattle.jl_modinfo.specs.Faults.{short}
+use Rattle.jl_tables.specs.declared.fault.InfoFault.TheVariants as faults
+use Rattle.jl_tables.specs.Faults.{short}
 use Rattle.jl_modinfo.specs.Meaning.{class_text, is_module_info}
 use Rattle.jl_modinfo.specs.Reading.{front_at, zero_at, this_at, empty_class_at}
 use Rattle.jl_reading.proofs.Standing.{number_in, number_read, join, first, second, known, ends_at}

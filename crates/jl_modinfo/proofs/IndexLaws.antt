@@ -15,9 +15,11 @@ use Rattle.jl_pool.specs.Pool.{paired, that, text_that, utf8_of, utf8_units, tex
 use Rattle.jl_pool.specs.Builder.{is_same, text_in, has, with_constant, with_needed, index_of, index_in, pool_of, IsKept, AreKept}
 use Rattle.jl_pool.proofs.BuilderLaws.{same_is, has_kept, has_new}
 use Rattle.jl_pool.proofs.PoolLaws.{entry_there, index_fits}
-use Rattle.jl_modinfo.specs.Meaning.{module_named, package_named, class_text}
-use Rattle.jl_modinfo.specs.Info.{Names}
-use Rattle.jl_modinfo.specs.Layout.{with_all, module_index, class_index, package_index}
+use Rattle.jl_tables.specs.Meaning.{module_named, package_named}
+use Rattle.jl_modinfo.specs.Meaning.{class_text}
+use Rattle.jl_tables.specs.Spelling.{Names}
+use Rattle.jl_modinfo.specs.Layout.{with_all}
+use Rattle.jl_tables.specs.Layout.{module_index, class_index, package_index}
 
 -- ---- what is entered is there
 

@@ -13,9 +13,11 @@ use Rattle.jl_names.specs.Names.{names_a_class}
 use Rattle.jl_pool.specs.declared.entry.Entry.{Entry}
 use Rattle.jl_pool.specs.Pool.{that, text_that, paired_text, class_of, module_of, package_of, class_named}
 use Rattle.jl_classfile.specs.Spelling.{Attribute}
-use Rattle.jl_modinfo.specs.Meaning.{module_named, package_named, targets_of}
-use Rattle.jl_modinfo.specs.Info.{RequiresRow, GrantRow, ProvidesRow, Names, NameAll, IsRequires, IsGrant, IsProvides, ArePackages, IsMain}
-use Rattle.jl_modinfo.specs.Writing.{targets, AreModules, AreClasses, IsFineGrant, IsFineProvides, IsFineMain}
+use Rattle.jl_tables.specs.Meaning.{module_named, package_named, targets_of}
+use Rattle.jl_tables.specs.Spelling.{RequiresRow, GrantRow, ProvidesRow, Names, NameAll, IsRequires, IsGrant, IsProvides}
+use Rattle.jl_modinfo.specs.Info.{ArePackages, IsMain}
+use Rattle.jl_tables.specs.Layout.{targets}
+use Rattle.jl_modinfo.specs.Writing.{AreModules, AreClasses, IsFineGrant, IsFineProvides, IsFineMain}
 use Rattle.jl_modinfo.specs.Kept.{FilesKeepRules}
 
 -- ---- names

@@ -6,11 +6,8 @@ pub mod AllLaws
 pub mod LimitLaws
 pub mod MemberLaws
 pub mod NeedLaws
-pub mod NameLaws
 pub mod PackageLaws
 pub mod FrontLaws
-pub mod TableLaws
-pub mod EntryLaws
 pub mod BodyLaws
 pub mod AttributeLaws
 pub mod FileLaws
@@ -22,4 +19,3 @@ pub mod KeptLaws
 mod FilledRows
 pub mod PartLaws
 pub mod Longer
-pub mod Later

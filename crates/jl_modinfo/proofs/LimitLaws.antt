@@ -6,7 +6,8 @@ use Rattle.std.proofs.lemmas.Bool.{cases_Bool, ltb-false}
 use Rattle.jl_prim.specs.declared.declaration.Grant.{Grant}
 use Rattle.jl_prim.specs.declared.declaration.Provides.{Provides}
 use Rattle.jl_prim.specs.declared.declaration.Declaration.{Declaration}
-use Rattle.jl_modinfo.specs.Writing.{Counted, targets, target_counts, class_counts, tables}
+use Rattle.jl_modinfo.specs.Writing.{Counted, target_counts, class_counts, tables}
+use Rattle.jl_tables.specs.Layout.{targets}
 use Rattle.jl_modinfo.specs.Layout.{first_long, has_long_targets, has_long_classes, or_else, named_if, long_of_grants, long_behind_grants, long_in_file, AreFew}
 use Rattle.jl_modinfo.proofs.AllLaws.{all_front, all_back, all_of}
 

@@ -28,12 +28,15 @@ use Rattle.jl_modinfo.specs.declared.attribute.Form.{Form}
 use Rattle.jl_modinfo.specs.declared.attribute.Form.TheVariants as forms
 use Rattle.jl_modinfo.specs.declared.attribute.Part.{Part}
 use Rattle.jl_modinfo.specs.declared.attribute.Part.TheVariants as parts
-use Rattle.jl_modinfo.specs.declared.fault.InfoFault.{InfoFault}
-use Rattle.jl_modinfo.specs.declared.fault.InfoFault.TheVariants as faults
-use Rattle.jl_modinfo.specs.Faults.{short, of_pool, pool_or, named_or}
-use Rattle.jl_modinfo.specs.Meaning.{module_named, package_named, class_text, version_named, is_set, is_module_info, is_among, targets_of}
+use Rattle.jl_tables.specs.declared.fault.InfoFault.{InfoFault}
+use Rattle.jl_tables.specs.declared.fault.InfoFault.TheVariants as faults
+use Rattle.jl_tables.specs.Faults.{short, of_pool, pool_or, named_or}
+use Rattle.jl_tables.specs.Meaning.{module_named, package_named, version_named, is_set, is_among, targets_of}
+use Rattle.jl_modinfo.specs.Meaning.{class_text, is_module_info}
 use Rattle.jl_modinfo.specs.Rules.{keeps_base_rule, missing_package}
-use Rattle.jl_modinfo.specs.Reading.{front_at, zero_at, this_at, empty_class_at, name_at, new_name_at, names_at, version_at, requires_at, requires_table_at, grant_at, grants_at, opened_named, implementations_at, provides_at, provides_table_at, ended, module_at, packages_at, main_at, form_of, form_name, part_at, is_first, reader_of, attributes_in, attributes_at, whole, ruled, all_there, or_found, declaration_of, info_of}
+use Rattle.jl_modinfo.specs.Reading.{front_at, zero_at, this_at, empty_class_at, ended, module_at, packages_at, main_at, form_of, form_name, part_at, is_first, reader_of, attributes_in, attributes_at, whole, ruled, all_there, or_found, declaration_of, info_of}
+use Rattle.jl_tables.specs.Reading.{name_at, new_name_at, names_at, version_at, requires_at, requires_table_at, grant_at, grants_at, implementations_at, provides_at, provides_table_at}
+use Rattle.jl_tables.specs.Meaning.{opened_named}
 use Rattle.jl_modinfo.specs.Longer.{cut_at, is_lasting, LiesInContent, IsReadPast, Lasts, ReadsLonger}
 
 abbrev Longer : {A : Type 0} → ℕ → (List ℕ → Result (A × ℕ) InfoFault) → Type 0

@@ -15,9 +15,10 @@ use Rattle.jl_pool.specs.declared.constant.Constant.TheVariants as constants
 use Rattle.jl_pool.specs.declared.constant.BuildEnd.TheVariants as ends
 use Rattle.jl_pool.specs.Builder.{text_in, IsShort, fitting}
 use Rattle.jl_logic.specs.Answers.{Gives}
-use Rattle.jl_modinfo.specs.declared.fault.InfoWriteFault.{InfoWriteFault}
-use Rattle.jl_modinfo.specs.declared.fault.InfoWriteFault.TheVariants as faults
-use Rattle.jl_modinfo.specs.Writing.{Need, Counted, text_need, class_need, module_need, package_need, targets, grant_needs, provides_needs, main_needs, named, with_text, each_once, pool_count, tables, too_many, AreShort, accepted, write_told}
+use Rattle.jl_tables.specs.declared.fault.InfoWriteFault.{InfoWriteFault}
+use Rattle.jl_tables.specs.declared.fault.InfoWriteFault.TheVariants as faults
+use Rattle.jl_modinfo.specs.Writing.{Need, Counted, text_need, class_need, module_need, package_need, grant_needs, provides_needs, main_needs, named, with_text, each_once, pool_count, tables, too_many, AreShort, accepted, write_told}
+use Rattle.jl_tables.specs.Layout.{targets}
 use Rattle.jl_modinfo.specs.Layout.{need_of, module_constant, class_constant, package_constant, required_constant, grant_constants, provides_constants, main_constants, version_constants, front_constants, table_constants, back_constants, named_constants, with_all, first_long}
 use Rattle.jl_modinfo.proofs.WritingLaws.{parts, length_all, fitting_is, fitting_not}
 

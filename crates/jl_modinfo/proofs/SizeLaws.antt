@@ -8,8 +8,10 @@ use Rattle.jl_prim.specs.declared.declaration.Grant.{Grant}
 use Rattle.jl_prim.specs.declared.declaration.Provides.{Provides}
 use Rattle.jl_prim.specs.declared.declaration.Declaration.{Declaration}
 use Rattle.jl_pool.specs.declared.constant.Constant.{Constant}
-use Rattle.jl_modinfo.specs.Writing.{targets, members}
-use Rattle.jl_modinfo.specs.Layout.{counted_by, module_bytes, class_bytes, package_bytes, requires_written, grant_written, provides_written, head_written, tables_written, body_written, target_length, class_length}
+use Rattle.jl_tables.specs.Layout.{targets}
+use Rattle.jl_modinfo.specs.Writing.{members}
+use Rattle.jl_tables.specs.Layout.{counted_by, module_bytes, class_bytes, package_bytes, requires_written, grant_written, provides_written}
+use Rattle.jl_modinfo.specs.Layout.{head_written, tables_written, body_written, target_length, class_length}
 use Rattle.jl_modinfo.proofs.MemberLaws.{members_are}
 
 -- rows of at most six bytes for each of their members

@@ -1,7 +1,6 @@
 -- The spelling of a declaration file: a relation between its bytes and a declaration (JVMS 4.1, 4.7.25 to 4.7.27).
 use Rattle.std.specs.Prelude.{◌≡◌, ℕ, ◌<◌, List, [], ◌∷◌, ◌++◌, length, Option, None, Some, IsTrue, true, codes, ◌⊎◌}
 use Rattle.jl_logic.specs.Order.{is_text}
-use Rattle.jl_logic.specs.Lists.{AreDistinct, Match}
 use Rattle.jl_reading.specs.Reading.{Stands, two, counted}
 use Rattle.jl_prim.specs.declared.declaration.Requires.{Requires}
 use Rattle.jl_prim.specs.declared.declaration.Grant.{Grant}
@@ -11,29 +10,14 @@ use Rattle.jl_pool.specs.declared.entry.Entry.{Entry}
 use Rattle.jl_pool.specs.Pool.{class_named}
 use Rattle.jl_pool.specs.Spelling.{StandsPool}
 use Rattle.jl_classfile.specs.Front.{is_version, front_bytes}
-use Rattle.jl_classfile.specs.Spelling.{Attribute, attribute_bytes, AreAttributes, HasName, IsTable}
+use Rattle.jl_classfile.specs.Spelling.{Attribute, attribute_bytes, AreAttributes, IsTable}
 use Rattle.jl_classfile.specs.Spelling as framing
-use Rattle.jl_modinfo.specs.Meaning.{module_named, package_named, class_text, version_named, is_set, targets_of}
+use Rattle.jl_tables.specs.Meaning.{module_named, package_named, version_named, is_set}
+use Rattle.jl_modinfo.specs.Meaning.{class_text}
 use Rattle.jl_modinfo.specs.Rules.{keeps_base_rule, missing_package}
+use Rattle.jl_tables.specs.Spelling.{RequiresRow, GrantRow, ProvidesRow, requires_bytes, grant_bytes, provides_bytes, Names, NameAll, IsRequires, IsGrant, IsProvides}
 
 -- ---- the parts of a file, by numbers
-
--- an entry of the requires table
-pub record RequiresRow : Type 0 where
-  pub index : ℕ
-  pub flags : ℕ
-  pub version : ℕ
-
--- an entry of the exports or opens table
-pub record GrantRow : Type 0 where
-  pub index : ℕ
-  pub flags : ℕ
-  pub targets : List ℕ
-
--- an entry of the provides table
-pub record ProvidesRow : Type 0 where
-  pub index : ℕ
-  pub classes : List ℕ
 
 -- a Module attribute
 pub record Body : Type 0 where
@@ -48,15 +32,6 @@ pub record Body : Type 0 where
 
 -- ---- their bytes
 
-abbrev pub requires_bytes : RequiresRow → List ℕ
-requires_bytes r = two r.index ++ (two r.flags ++ two r.version)
-
-abbrev pub grant_bytes : GrantRow → List ℕ
-grant_bytes g = two g.index ++ (two g.flags ++ counted two g.targets)
-
-abbrev pub provides_bytes : ProvidesRow → List ℕ
-provides_bytes p = two p.index ++ counted two p.classes
-
 -- the content of a Module attribute
 abbrev pub body_bytes : Body → List ℕ
 body_bytes b =
@@ -69,35 +44,6 @@ back_bytes this attributes =
     two 0x8000 ++ (two this ++ (two 0 ++ (two 0 ++ (two 0 ++ (two 0 ++ counted attribute_bytes attributes)))))
 
 -- ---- what they declare
-
--- an index of two bytes has this name
-abbrev pub Names : (List Entry → ℕ → Option (List ℕ)) → List Entry → ℕ → List ℕ → Type 0
-Names named pool i name = HasName (named pool) i name
-
--- indices have these names, each once
-pub record NameAll (named : List Entry → ℕ → Option (List ℕ)) (pool : List Entry) (is : List ℕ) (names : List (List ℕ)) : Type 0 where
-  pub few : length is < 65536
-  pub each : Match (Names named pool) is names
-  pub distinct : AreDistinct names
-
-pub record IsRequires (pool : List Entry) (r : RequiresRow) (e : Requires) : Type 0 where
-  pub fits : (r.flags < 65536) × (r.version < 65536)
-  pub named : Names module_named pool r.index e.name
-  pub version : (v : Option (List ℕ)) × (version_named pool r.version ≡ Some v)
-  pub transitive : e.transitive ≡ is_set r.flags 0x20
-  pub is_static : e.is_static ≡ is_set r.flags 0x40
-
-pub record IsGrant (pool : List Entry) (r : GrantRow) (e : Grant) : Type 0 where
-  pub fits : r.flags < 65536
-  pub named : Names package_named pool r.index e.«package»
-  pub targets : List (List ℕ)
-  pub to : e.to ≡ targets_of targets
-  pub all : NameAll module_named pool r.targets targets
-
-pub record IsProvides (pool : List Entry) (r : ProvidesRow) (e : Provides) : Type 0 where
-  pub named : Names class_named pool r.index e.service
-  pub all : NameAll class_named pool r.classes e.implementations
-  pub some : r.classes ≡ [] → ⊥
 
 -- a Module attribute declares these parts
 pub record IsBody (pool : List Entry) (b : Body) (d : Declaration) : Type 0 where

@@ -1,6 +1,6 @@
 -- The constants that a declaration names, and its parts by their indices, as they are written (JVMS 4.1, 4.7.25 to 4.7.27).
-use Rattle.std.specs.Prelude.{ℕ, ◌+◌, ◌<◌, List, [], ◌∷◌, ◌++◌, length, map, Option, None, Some, Bool, nat_lt, nat_le, codes, if◌then◌else◌}
-use Rattle.std.specs.List.{flat_map, list_any, AllByRecursion}
+use Rattle.std.specs.Prelude.{ℕ, ◌<◌, List, [], ◌∷◌, ◌++◌, length, map, Option, None, Some, Bool, nat_lt, nat_le, codes, if◌then◌else◌}
+use Rattle.std.specs.List.{flat_map, list_any}
 use Rattle.jl_reading.specs.Reading.{two, four, counted}
 use Rattle.jl_prim.specs.declared.declaration.Requires.{Requires}
 use Rattle.jl_prim.specs.declared.declaration.Grant.{Grant}
@@ -12,9 +12,10 @@ use Rattle.jl_names.specs.Text.{text_bytes}
 use Rattle.jl_names.specs.Utf16.{utf16}
 use Rattle.jl_pool.specs.Builder.{text_in, index_in, pool_of, with_needed}
 use Rattle.jl_pool.specs.Spelling.{entry_bytes}
-use Rattle.jl_modinfo.specs.Info.{RequiresRow, GrantRow, ProvidesRow, Body, body_bytes, back_bytes}
+use Rattle.jl_modinfo.specs.Info.{Body, body_bytes, back_bytes}
 use Rattle.jl_classfile.specs.Spelling.{Attribute}
-use Rattle.jl_modinfo.specs.Writing.{Need, Counted, targets}
+use Rattle.jl_modinfo.specs.Writing.{Need, Counted}
+use Rattle.jl_tables.specs.Layout.{targets, module_index, class_index, package_index, requires_row, grant_row, provides_row, counted_by, module_bytes, class_bytes, package_bytes, requires_written, grant_written, provides_written, AreTargetsFew, AreClassesFew}
 
 -- ---- constants
 
@@ -73,30 +74,9 @@ named_constants d = front_constants d ++ (table_constants d ++ back_constants d)
 
 -- ---- parts by indices
 
-abbrev pub module_index : List Constant → List ℕ → ℕ
-module_index cs n = index_in cs (constants.Module n)
-
-abbrev pub class_index : List Constant → List ℕ → ℕ
-class_index cs n = index_in cs (constants.Class n)
-
-abbrev pub package_index : List Constant → List ℕ → ℕ
-package_index cs n = index_in cs (constants.Package n)
-
 abbrev pub version_index : List Constant → Option (List ℕ) → ℕ
 version_index cs None = 0
 version_index cs (Some v) = index_in cs (constants.Text v)
-
-abbrev pub requires_flags : Requires → ℕ
-requires_flags r = (if r.transitive then 0x20 else 0) + (if r.is_static then 0x40 else 0)
-
-abbrev pub requires_row : List Constant → Requires → RequiresRow
-requires_row cs r = record { index = module_index cs r.name; flags = requires_flags r; version = 0 }
-
-abbrev pub grant_row : List Constant → Grant → GrantRow
-grant_row cs g = record { index = package_index cs g.package; flags = 0; targets = map (module_index cs) (targets g) }
-
-abbrev pub provides_row : List Constant → Provides → ProvidesRow
-provides_row cs p = record { index = class_index cs p.service; classes = map (class_index cs) p.implementations }
 
 abbrev pub body_of : List Constant → Declaration → Body
 body_of cs d = record {
@@ -131,27 +111,6 @@ file_of cs d =
     ++ back_bytes (class_index cs (codes "module-info")) (attributes_of cs d))
 
 -- ---- the same bytes as they are written, one entry after the other
-
-abbrev pub counted_by : {A : Type 0} → (A → List ℕ) → List A → List ℕ
-counted_by bytes xs = two (length xs) ++ flat_map bytes xs
-
-abbrev pub module_bytes : List Constant → List ℕ → List ℕ
-module_bytes cs n = two (module_index cs n)
-
-abbrev pub class_bytes : List Constant → List ℕ → List ℕ
-class_bytes cs n = two (class_index cs n)
-
-abbrev pub package_bytes : List Constant → List ℕ → List ℕ
-package_bytes cs n = two (package_index cs n)
-
-abbrev pub requires_written : List Constant → Requires → List ℕ
-requires_written cs r = module_bytes cs r.name ++ (two (requires_flags r) ++ two 0)
-
-abbrev pub grant_written : List Constant → Grant → List ℕ
-grant_written cs g = package_bytes cs g.package ++ (two 0 ++ counted_by (module_bytes cs) (targets g))
-
-abbrev pub provides_written : List Constant → Provides → List ℕ
-provides_written cs p = class_bytes cs p.service ++ counted_by (class_bytes cs) p.implementations
 
 abbrev pub head_written : List Constant → Declaration → List ℕ
 head_written cs d = module_bytes cs d.name ++ (two (if d.is_open then 0x20 else 0) ++ two (version_index cs d.version))
@@ -237,12 +196,6 @@ long_in_file d =
     (or_else (long_of_grants (codes "exports") d.exports) (or_else (long_of_grants (codes "opens") d.opens) (long_behind_grants d)))
 
 -- ---- tables whose counts fit two bytes
-
-abbrev pub AreTargetsFew : List Grant → Type 0
-AreTargetsFew grants = AllByRecursion (λ (g : Grant). length (targets g) < 65536) grants
-
-abbrev pub AreClassesFew : List Provides → Type 0
-AreClassesFew provides = AllByRecursion (λ (p : Provides). length p.implementations < 65536) provides
 
 pub record AreFew (d : Declaration) : Type 0 where
   pub required : length d.required < 65536

@@ -3,8 +3,8 @@ use Rattle.std.specs.Prelude.{◌≡◌, ℕ, ◌+◌, ◌<◌, ◌≤◌, List,
 use Rattle.byteorder.specs.Endian.{big_number}
 use Rattle.jl_reading.specs.Reading.{IsBytes}
 use Rattle.jl_reading.specs.Appended.{Stays}
-use Rattle.jl_modinfo.specs.declared.fault.InfoFault.{InfoFault}
-use Rattle.jl_modinfo.specs.declared.fault.InfoFault.TheVariants as faults
+use Rattle.jl_tables.specs.declared.fault.InfoFault.{InfoFault}
+use Rattle.jl_tables.specs.declared.fault.InfoFault.TheVariants as faults
 use Rattle.jl_modinfo.specs.Reading.{info_of}
 
 -- the place of a number, a text or a content that is cut

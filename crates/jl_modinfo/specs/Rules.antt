@@ -7,7 +7,8 @@ use Rattle.jl_prim.specs.declared.declaration.Grant.{Grant}
 use Rattle.jl_prim.specs.declared.declaration.Provides.{Provides}
 use Rattle.jl_prim.specs.declared.declaration.Declaration.{Declaration}
 use Rattle.jl_names.specs.Names.{package_of}
-use Rattle.jl_modinfo.specs.Meaning.{java_base, is_among}
+use Rattle.jl_modinfo.specs.Meaning.{java_base}
+use Rattle.jl_tables.specs.Meaning.{is_among}
 
 abbrev pub is_none : List Requires → Bool
 is_none [] = true

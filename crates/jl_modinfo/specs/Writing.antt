@@ -12,9 +12,10 @@ use Rattle.jl_prim.specs.declared.declaration.Declaration.{Declaration}
 use Rattle.jl_names.specs.Names.{names_a_class}
 use Rattle.jl_names.specs.Text.{text_bytes}
 use Rattle.jl_names.specs.Utf16.{utf16}
-use Rattle.jl_modinfo.specs.declared.fault.InfoWriteFault.{InfoWriteFault}
-use Rattle.jl_modinfo.specs.declared.fault.InfoWriteFault.TheVariants as faults
+use Rattle.jl_tables.specs.declared.fault.InfoWriteFault.{InfoWriteFault}
+use Rattle.jl_tables.specs.declared.fault.InfoWriteFault.TheVariants as faults
 use Rattle.jl_modinfo.specs.Rules.{keeps_base_rule, missing_package}
+use Rattle.jl_tables.specs.Layout.{targets}
 
 -- what an error tells: the fault, or nothing for want of memory
 abbrev pub write_told : InfoWriteFault → Option InfoWriteFault
@@ -22,12 +23,6 @@ write_told (faults.TooMany table) = Some (faults.TooMany table)
 write_told faults.NoMemory = None
 
 -- ---- tables
-
-abbrev pub targets : Grant → List (List ℕ)
-targets g = some_names g.to where
-  some_names : Option (List (List ℕ)) → List (List ℕ)
-  some_names None = []
-  some_names (Some names) = names
 
 -- a table by its name, and how many entries it has
 abbrev pub Counted : Type 0

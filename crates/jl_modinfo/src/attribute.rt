@@ -4,17 +4,15 @@ ghost use Rattle.std.specs.Prelude.{◌≡◌};
 ghost use Rattle.std.specs.List.{list_any};
 ghost use Rattle.jl_logic.specs.Answers.{Gives};
 ghost use Rattle.jl_classfile.specs.Places.{Reads};
-ghost use Rattle.jl_modinfo.specs.Faults.{told};
+ghost use Rattle.jl_tables.specs.Faults.{told};
 ghost use Rattle.jl_modinfo.specs.Reading.{form_name, is_form, part_form, attributes_at, attributes_in};
 ghost use Rattle.jl_modinfo.specs.Reading as reading;
 
-use crate::fault::{InfoFault, repetition};
-use crate::kind::Kind;
 use crate::module::{Module, module_of};
-use crate::names::{name_at, names_at};
 use jl_classfile::{AttributeReader, Place};
 use jl_pool::Pool;
 use jl_prim::{Copied, Items, Name};
+use jl_tables::{InfoFault, Kind, name_at, names_at, repetition};
 use std::alloc::Global;
 
 /// The attributes of a declaration file that are read.

@@ -1,6 +1,6 @@
 //! The pool of a declaration.
 
-ghost use Rattle.std.specs.Prelude.{◌≡◌, [], IfOk, IsOkUnless};
+ghost use Rattle.std.specs.Prelude.{◌≡◌, [], IfOk};
 ghost use Rattle.std.specs.List.{AllByRecursion};
 ghost use Rattle.jl_logic.specs.Answers.{Gives};
 ghost use Rattle.jl_pool.specs.Builder.{build_told, fitting, text_in, IsShort};

@@ -3,13 +3,13 @@
 ghost use Rattle.std.specs.Prelude.{◌≡◌, IfErr, Some};
 ghost use Rattle.jl_modinfo.specs.Meaning.{class_text as text_of_class, is_module_info as names_module_info};
 ghost use Rattle.jl_modinfo.specs.Reading.{front_at, zero_at, this_at, empty_class_at};
-ghost use Rattle.jl_modinfo.specs.Faults.{told};
+ghost use Rattle.jl_tables.specs.Faults.{told};
 ghost use Rattle.jl_modinfo.specs.Places.{Moves};
 
-use crate::fault::{InfoFault, not_module};
 use crate::meaning::class_text;
 use jl_classfile::{Place, front as framing_front};
 use jl_pool::Pool;
+use jl_tables::{InfoFault, not_module};
 use std::alloc::Global;
 
 const MODULE_FLAGS: u16 = 0x8000;

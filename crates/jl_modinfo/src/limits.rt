@@ -3,7 +3,8 @@
 ghost use Rattle.std.specs.Prelude.{◌≡◌, length, nat_lt};
 ghost use Rattle.std.specs.List.{list_any};
 ghost use Rattle.std.specs.Option.{option_copied};
-ghost use Rattle.jl_modinfo.specs.Writing.{targets, tables};
+ghost use Rattle.jl_tables.specs.Layout.{targets};
+ghost use Rattle.jl_modinfo.specs.Writing.{tables};
 ghost use Rattle.jl_modinfo.specs.Layout.{first_long, has_long_targets, has_long_classes, named_if, or_else, long_of_grants, long_behind_grants, long_in_file};
 
 use jl_prim::{Declaration, Grant, Provides};

@@ -1,13 +1,13 @@
 //! The constants that a declaration names.
 
-ghost use Rattle.std.specs.Prelude.{◌≡◌, ◌++◌, ◌∷◌, [], map, codes, IfOk, OnOk, IsOkUnless};
+ghost use Rattle.std.specs.Prelude.{◌≡◌, ◌++◌, ◌∷◌, [], map, IfOk, OnOk, IsOkUnless};
 ghost use Rattle.std.specs.List.{flat_map};
 ghost use Rattle.jl_pool.specs.declared.constant.Constant.TheVariants as constants;
 ghost use Rattle.jl_modinfo.specs.Layout.{module_constant, class_constant, package_constant, required_constant, grant_constants, provides_constants, main_class_constants, main_constants, version_constants, first_constants, front_constants, table_constants, back_constants, named_constants};
 
-use crate::fault::InfoWriteFault;
 use jl_pool::Constant;
 use jl_prim::{Copied, Declaration, Grant, Name, Provides, Requires};
+use jl_tables::InfoWriteFault;
 use std::alloc::Global;
 
 /// What a declaration names, in the order of a file.

@@ -1,24 +1,23 @@
 //! Reading a declaration file.
 
-ghost use Rattle.std.specs.Prelude.{◌≡◌, ◌↔◌, List, ℕ, IfOk, Ok, Err};
+ghost use Rattle.std.specs.Prelude.{◌≡◌, ◌↔◌, IfOk, Ok, Err};
 ghost use Rattle.jl_logic.specs.Answers.{Gives};
 ghost use Rattle.jl_classfile.specs.Places.{Reads};
 ghost use Rattle.jl_pool.specs.Reading.{pool_at};
 ghost use Rattle.jl_prim.specs.declared.declaration.Declaration.{Declaration};
 ghost use Rattle.jl_modinfo.specs.Info.{IsInfo};
-ghost use Rattle.jl_modinfo.specs.declared.fault.InfoFault.{InfoFault};
-ghost use Rattle.jl_modinfo.specs.Faults.{told, pool_or};
+ghost use Rattle.jl_tables.specs.declared.fault.InfoFault.{InfoFault};
+ghost use Rattle.jl_tables.specs.Faults.{told, pool_or};
 ghost use Rattle.jl_modinfo.specs.Reading.{info_of, declaration_of, or_found, whole as whole_file};
 
 use crate::attribute::{FileParts, attributes_of};
-use crate::fault::InfoFault;
 use crate::front::{empty_class, front};
 use crate::module::Module;
-use crate::names::copied_all;
 use crate::rules::ruled;
 use jl_classfile::Place;
 use jl_pool::{Pool, read_pool};
 use jl_prim::{Declaration, Items, Name};
+use jl_tables::{InfoFault, copied_all};
 use std::alloc::Global;
 
 /// The declaration that a `module-info.class` file has (JVMS 4.1, 4.7.25). `found` is the packages to take

@@ -7,18 +7,18 @@ ghost use Rattle.std.specs.Cmp.Lexicographic.{pointwise};
 ghost use Rattle.jl_logic.specs.Answers.{Gives};
 ghost use Rattle.jl_logic.specs.Order.{is_text};
 ghost use Rattle.jl_prim.specs.declared.declaration.Requires.{Requires};
-ghost use Rattle.jl_modinfo.specs.declared.fault.InfoFault.TheVariants.{NoMemory};
+ghost use Rattle.jl_tables.specs.declared.fault.InfoFault.TheVariants.{NoMemory};
 ghost use Rattle.jl_names.specs.Names.{package_of as package_in};
-ghost use Rattle.jl_modinfo.specs.Faults.{told};
-ghost use Rattle.jl_modinfo.specs.Meaning.{is_among};
+ghost use Rattle.jl_tables.specs.Faults.{told};
+ghost use Rattle.jl_tables.specs.Meaning.{is_among};
 ghost use Rattle.jl_modinfo.specs.Reading.{ruled as is_ruled};
 ghost use Rattle.jl_modinfo.specs.Rules.{granted, implementing};
 ghost use Rattle.jl_modinfo.specs.Rules as rules;
 
-use crate::fault::InfoFault;
 use indexmap::IndexSet;
 use jl_names::package_of;
 use jl_prim::{Copied, CopyEnd, Declaration, Grant, Items, Name, Provides, Requires};
+use jl_tables::InfoFault;
 use std::alloc::Global;
 
 /// The declaration where it keeps the rules.

@@ -1,15 +1,15 @@
 //! Whether a declaration meets the conditions of writing.
 
-ghost use Rattle.std.specs.Prelude.{◌≡◌, ◌+◌, ◌≤◌, ◌↔◌, length, IsTrue, IfOk, IsOkUnless};
+ghost use Rattle.std.specs.Prelude.{◌≡◌, ◌+◌, ◌≤◌, ◌↔◌, IsTrue, IfOk, IsOkUnless};
 ghost use Rattle.std.specs.List.{list_all, sum_by};
 ghost use Rattle.jl_modinfo.specs.Writing.{AreShort, members};
 ghost use Rattle.jl_modinfo.specs.Layout.{capped, target_length, class_length, is_short_constant};
 
-use crate::fault::InfoWriteFault;
 use crate::limits::target_count;
 use crate::named::constants_of;
 use jl_pool::Constant;
 use jl_prim::{Declaration, Grant, Provides};
+use jl_tables::InfoWriteFault;
 use std::alloc::Global;
 
 /// The most members that the lists of a declaration may have together.

@@ -6,18 +6,18 @@ ghost use Rattle.jl_reading.specs.Reading.{two};
 ghost use Rattle.jl_modinfo.specs.Writing.{write_told, accepted, tables, too_many, AreShort, members, KeepsRules};
 ghost use Rattle.jl_modinfo.specs.Info.{IsInfo};
 ghost use Rattle.jl_pool.specs.Builder.{AreKept};
-ghost use Rattle.jl_modinfo.specs.Layout.{AreFew, first_long, counted_by, package_bytes, version_index, head_written, tables_written, body_written, attribute_written, main_written, attribute_count, attributes_written, class_written, front_written, pool_written, file_written};
+ghost use Rattle.jl_modinfo.specs.Layout.{AreFew, first_long, version_index, head_written, tables_written, body_written, attribute_written, main_written, attribute_count, attributes_written, class_written, front_written, pool_written, file_written};
+ghost use Rattle.jl_tables.specs.Layout.{counted_by, package_bytes};
 
 use crate::entering::entered;
-use crate::fault::InfoWriteFault;
 use crate::limits::long_table;
 use crate::named::constants_of;
-use crate::tables::{
-    push_class, push_classes, push_grants, push_index, push_module, push_packages, push_required,
-    push_services,
-};
 use jl_pool::{BuildEnd, Constant, PoolBuilder, pool_bytes, push_u16, push_u32};
 use jl_prim::{Copied, Declaration, Name};
+use jl_tables::{
+    InfoWriteFault, push_class, push_classes, push_grants, push_index, push_module, push_packages,
+    push_required, push_services,
+};
 use std::alloc::Global;
 
 const MAGIC: u32 = 0xcafe_babe;

@@ -1,6 +1,6 @@
 use Rattle.std.proofs.Common.{arith}
 use Rattle.jl_reading.proofs.Whole.{found_in, only_in, fault_or_value}
-use Rattle.jl_modinfo.specs.Faults.{told}
+use Rattle.jl_tables.specs.Faults.{told}
 use Rattle.jl_modinfo.specs.Info.{IsInfo}
 use Rattle.jl_modinfo.specs.Reading.{info_of}
 use Rattle.jl_modinfo.proofs.FileLaws.{info_stands, info_reads}

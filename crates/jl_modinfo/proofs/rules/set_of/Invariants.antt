@@ -1,7 +1,7 @@
 use Rattle.std.proofs.Common.{length, ◌≡◌, ℕ, List, ◌||◌, nat_eq}
 use Rattle.std.specs.List.{list_any}
 use Rattle.std.specs.Cmp.Lexicographic.{pointwise}
-use Rattle.jl_modinfo.specs.Meaning.{is_among}
+use Rattle.jl_tables.specs.Meaning.{is_among}
 use Rattle.jl_modinfo.proofs.rules.set_of.Given as goal
 
 -- what is put in and what is left to put in are the names

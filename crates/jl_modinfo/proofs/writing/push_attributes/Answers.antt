@@ -1,7 +1,8 @@
 use Rattle.std.proofs.Common.{ℕ, ◌<◌, List, ◌++◌, length, ap, sym, subst, ◌∙◌}
 use Rattle.std.specs.Prelude.{codes}
 use Rattle.jl_reading.specs.Reading.{two}
-use Rattle.jl_modinfo.specs.Layout.{attribute_count, attribute_written, body_written, counted_by, package_bytes, main_written}
+use Rattle.jl_modinfo.specs.Layout.{attribute_count, attribute_written, body_written, main_written}
+use Rattle.jl_tables.specs.Layout.{counted_by, package_bytes}
 use Rattle.jl_modinfo.proofs.SizeLaws.{small_body, small_packages}
 use Rattle.jl_modinfo.proofs.MoreLaws.{then_more}
 use Rattle.jl_modinfo.proofs.writing.push_attributes.Goals as goal

@@ -1,0 +1,5 @@
+mod Rows
+pub mod NameLaws
+pub mod TableLaws
+pub mod EntryLaws
+pub mod Later
