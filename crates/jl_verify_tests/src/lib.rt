@@ -1,0 +1,5 @@
+//! Tests of assignability.
+#![tactic(auto)]
+
+#[cfg(test)]
+mod assignability;

@@ -1,0 +1,5 @@
+-- Lemmas.
+pub mod Coming
+pub mod Elements
+pub mod Lineage
+mod Rows

@@ -1,0 +1,60 @@
+-- Worked rows of the definitions.
+use Rattle.std.proofs.Common.{◌≡◌, ℕ, List, Bool, true, false, refl}
+use Rattle.std.specs.Prelude.{codes}
+use Rattle.jl_vtypes.specs.declared.item.Item.TheVariants as items
+use Rattle.jl_vtypes.specs.declared.question.Question.TheVariants as questions
+use Rattle.jl_vtypes.specs.Asking.{Asks, Done, Ask}
+use Rattle.jl_vtypes.specs.Assignability.{goes, spelled, unless_interface}
+
+-- a class goes to another where that one is an interface, and else where it is a superclass
+abbrev asked : List ℕ → List ℕ → Asks Bool
+asked from to = Ask (questions.IsInterface to) (unless_interface from to)
+
+classes : goes (items.Class (codes "p/A")) (items.Class (codes "p/B")) ≡ asked (codes "p/A") (codes "p/B")
+classes = refl
+
+the_same_class : goes (items.Class (codes "p/A")) (items.Class (codes "p/A")) ≡ Done true
+the_same_class = refl
+
+to_object : goes (items.Class (codes "p/A")) (items.Class (codes "java/lang/Object")) ≡ Done true
+to_object = refl
+
+elements : goes (items.Array (codes "[[Lp/A;")) (items.Array (codes "[[Lp/B;")) ≡ asked (codes "p/A") (codes "p/B")
+unfolding spelled
+elements = refl
+
+rows_as_objects : goes (items.Array (codes "[[I")) (items.Array (codes "[Ljava/lang/Object;")) ≡ Done true
+unfolding spelled
+rows_as_objects = refl
+
+ints_as_objects : goes (items.Array (codes "[I")) (items.Array (codes "[Ljava/lang/Object;")) ≡ Done false
+unfolding spelled
+ints_as_objects = refl
+
+primitives_alone : goes (items.Array (codes "[B")) (items.Array (codes "[Z")) ≡ Done false
+unfolding spelled
+primitives_alone = refl
+
+arrays_are_cloneable : goes (items.Array (codes "[I")) (items.Class (codes "java/lang/Cloneable")) ≡ Done true
+arrays_are_cloneable = refl
+
+arrays_are_nothing_else : goes (items.Array (codes "[I")) (items.Class (codes "java/lang/Runnable")) ≡ Done false
+arrays_are_nothing_else = refl
+
+no_array : goes (items.Class (codes "java/lang/Object")) (items.Array (codes "[I")) ≡ Done false
+no_array = refl
+
+null : goes items.Null (items.Array (codes "[I")) ≡ Done true
+null = refl
+
+to_null : goes (items.Class (codes "p/A")) items.Null ≡ Done false
+to_null = refl
+
+uninitialized : goes (items.Uninit 3) (items.Class (codes "java/lang/Object")) ≡ Done false
+uninitialized = refl
+
+another_new : goes (items.Uninit 3) (items.Uninit 7) ≡ Done false
+another_new = refl
+
+to_top : goes (items.Uninit 3) items.Top ≡ Done true
+to_top = refl

@@ -1,0 +1,16 @@
+//! The types that the check of methods works with, and which of them are assignable to which (JVMS 4.10.1.2).
+#![tactic(auto)]
+
+mod assigning;
+mod ends;
+mod hierarchy;
+mod item;
+mod listed;
+mod question;
+
+pub use assigning::assignable;
+pub use ends::HierarchyEnd;
+pub use hierarchy::Hierarchy;
+pub use item::Item;
+pub use listed::{ListedClass, ListedClasses, MissingClass};
+pub use question::{Asked, Question};
