@@ -17,10 +17,11 @@ use Rattle.jl_config.specs.Orders.{candidate_cmp}
 use Rattle.jl_config.specs.Places.{place_named, kept_marked, AreMarks, AreMembers, candidates_at, CycleFault}
 use Rattle.jl_config.specs.Refusals.{HasEdge, Leads, IsOnCycle, fault_cmp}
 use Rattle.jl_config.specs.Cycles.{edge_place, edge_row, edge_rows, LeadsBack, IsFirstOnCycle}
-use Rattle.jl_config.proofs.MemberFinds.{FoundAt, found_where, kept_shows, member_found}
-use Rattle.jl_config.proofs.Lists.{into_filter_map, from_filter_map, from_map, row_at, all_of, same_item, item_at, mark_of}
+use Rattle.jl_config.proofs.MemberFinds.{FoundAt, found_where, member_found}
+use Rattle.jl_config.proofs.Lists.{into_filter_map, from_filter_map, from_map, row_at, all_of, same_item, item_at}
 use Rattle.jl_config.proofs.FaultOrder.{cycle_cmp, candidates_total}
-use Rattle.jl_config.proofs.Finds.{named_shows, named_place}
+use Rattle.jl_config.proofs.Finds.{named_place}
+use Rattle.jl_config.proofs.ReadMarks.{member_shows}
 
 module _ (w : Scene) (marks : List Bool) (right : AreMarks w marks) where
   abbrev Edges : Candidate → List ℕ
@@ -32,9 +33,8 @@ module _ (w : Scene) (marks : List Bool) (right : AreMarks w marks) where
   edge_shows : (s : Candidate) (q : ℕ) → Contains (Edges s) q → (t : Candidate) × (slice_get w.candidates q ≡ Some t) × HasEdge w s t
   edge_shows s q c =
       let r = from_filter_map (edge_place w marks) s.observed.declaration.required q c in
-      let k = kept_shows marks (place_named r.0.name w.candidates) q r.2 in
-      let t = named_shows r.0.name w.candidates q k.0 in
-      (t.0, t.1.at, (r.0, r.1, t.1.found, (right.only q t.0 t.1.at (mark_of marks q k.1)).0))
+      let m = member_shows w marks right r.0.name q r.2 in
+      (m.0, m.1.at, (r.0, r.1, m.2))
 
   pub marked_at : (t : Candidate) → IsMember w t → (q : ℕ) × FoundAt w q t × (slice_get marks q ≡ Some true)
   marked_at t m =
@@ -45,9 +45,9 @@ module _ (w : Scene) (marks : List Bool) (right : AreMarks w marks) where
   edge_has : (s t : Candidate) (q : ℕ) → FoundAt w q t → HasEdge w s t → Contains (Edges s) q
   edge_has s t q f h =
       let r : Requires = h.0 in
-      let named : candidate_name t ≡ r.name = (named_place r.name w.candidates t h.2).1.named in
+      let named : candidate_name t ≡ r.name = (named_place r.name w.candidates t h.2.meant).1.named in
       let place : place_named r.name w.candidates ≡ Some q = ap (λ (n : List ℕ). place_named n w.candidates) (sym named) ∙ f.first in
-      let mark : get_or marks q false ≡ true = get_or_from_slice_get marks q true false (right.all q t f.at h.3 f.first) in
+      let mark : get_or marks q false ≡ true = get_or_from_slice_get marks q true false (right.all q t f.at h.2.member f.first) in
       let kept : edge_place w marks r ≡ Some q = ap (kept_marked marks) place ∙ ap (λ (b : Bool). cond b (Some q) None) mark in
       into_filter_map (edge_place w marks) s.observed.declaration.required r q h.1 kept
 
@@ -60,11 +60,11 @@ module _ (w : Scene) (marks : List Bool) (right : AreMarks w marks) where
       (e.0, e.1, (r.0, r.2, e.2))
 
   leads_chain : (s : Candidate) (n : ℕ) (t : Candidate) → Leads w n s t → (q : ℕ) × FoundAt w q t × Chain Rows (Edges s) n q
-  leads_chain s zero t h = let r = marked_at t h.3 in (r.0, r.1, edge_has s t r.0 r.1 h)
+  leads_chain s zero t h = let r = marked_at t h.2.member in (r.0, r.1, edge_has s t r.0 r.1 h)
   leads_chain s (suc n) t h =
       let before = leads_chain s n h.0 h.1 in
       let b : FoundAt w before.0 h.0 = before.1 in
-      let r = marked_at t h.2.3 in
+      let r = marked_at t h.2.2.member in
       let c : Contains (Edges h.0) r.0 = edge_has h.0 t r.0 r.1 h.2 in
       (r.0, r.1, (before.0, before.2, subst (λ (l : List ℕ). Contains l r.0) (sym (row_at Edges w.candidates before.0 h.0 [] b.at)) c))
 

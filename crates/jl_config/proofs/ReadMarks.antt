@@ -44,7 +44,7 @@ own_has w None b e = absurd cc
 own_has w (Some r) b e = let s = own_place_of r.config r.name w.candidates b e in (s.0, s.1.first, s.1.at)
 
 module _ (w : Scene) (marks : List Bool) (right : AreMarks w marks) where
-  member_shows : (name : List ℕ) (p : ℕ) → member_place w marks name ≡ Some p → (b : Candidate) × First w p b × MeansMember w name b
+  pub member_shows : (name : List ℕ) (p : ℕ) → member_place w marks name ≡ Some p → (b : Candidate) × First w p b × MeansMember w name b
   member_shows name p e =
       let k = kept_shows marks (place_named name w.candidates) p e in
       let s = named_shows name w.candidates p k.0 in

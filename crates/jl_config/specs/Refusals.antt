@@ -12,7 +12,7 @@ use Rattle.jl_config.specs.declared.fault.ResolveFault.{ResolveFault}
 use Rattle.jl_config.specs.declared.fault.ResolveFault.TheVariants.{NoParents, NotFound, TooMany, Cycle, SameName, SamePackage, OwnPackage, ServicePackage, NoMemory}
 use Rattle.jl_config.specs.declared.candidate.Candidate.{Candidate}
 use Rattle.jl_config.specs.Located.{Asked, Scene, scene_of, candidate_name, located}
-use Rattle.jl_config.specs.Members.{Needs, Uses, IsProvidedBy, IsMember, Reads}
+use Rattle.jl_config.specs.Members.{Needs, Uses, IsProvidedBy, IsMember, MeansMember, Reads}
 use Rattle.jl_config.specs.Orders.{candidate_cmp}
 
 -- ---- what is not there, or too much
@@ -30,7 +30,7 @@ IsLarge w = (ss : List Candidate) × RisesBy candidate_cmp ss × All (IsMember w
 
 -- a requires entry of a means the member b
 abbrev pub HasEdge : Scene → Candidate → Candidate → Type 0
-HasEdge w a b = (r : Requires) × Contains a.observed.declaration.required r × (located w r.name ≡ Some b) × IsMember w b
+HasEdge w a b = (r : Requires) × Contains a.observed.declaration.required r × MeansMember w r.name b
 
 -- n + 1 edges lead from a to b
 abbrev pub Leads : Scene → ℕ → Candidate → Candidate → Type 0

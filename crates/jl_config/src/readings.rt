@@ -103,10 +103,7 @@ fn place_of_member(scene: &Scene, marks: &[bool], name: &Name) -> Option<usize>
 fn place_meant_here(scene: &Scene, marks: &[bool], name: &Name) -> Option<usize>
     ensures { result ≡ here_place scene.now marks.now name.now }
 {
-    match place_of_member(scene, marks, name) {
-        None => scene.above(name),
-        member => member,
-    }
+    place_of_member(scene, marks, name).or_else(|| scene.above(name))
 }
 
 /// The place of the module that a name means to a module.

@@ -229,7 +229,7 @@ const READS: [[&str; 5]; 13] = [
 ];
 
 /// What an ancestor has.
-const PARENTS: [[&str; 5]; 10] = [
+const PARENTS: [[&str; 5]; 13] = [
     ["-", "", "module a", "a", "NoParents"],
     [
         ABOVE,
@@ -262,6 +262,27 @@ const PARENTS: [[&str; 5]; 10] = [
         "module r; requires static x",
         "r",
         "r: r x;",
+    ],
+    [
+        ABOVE,
+        "module x",
+        "module r; requires transitive static x | module m; requires r",
+        "m",
+        "m: m r x;r: r x;",
+    ],
+    [
+        ABOVE,
+        "module x",
+        "module r; requires static x; requires y",
+        "r x",
+        "SameName r x",
+    ],
+    [
+        "module x; exports p; packages p",
+        "module x",
+        "module r; requires static x; packages p",
+        "r",
+        "OwnPackage r p x",
     ],
     [ABOVE, "", "module r; requires z", "r", "NotFound z r"],
 ];
