@@ -1,0 +1,13 @@
+pub mod Arithmetic
+pub mod Arrays
+pub mod Branches
+pub mod Decoding
+pub mod FrameRows
+pub mod Laws
+pub mod Leaving
+pub mod Locals
+pub mod Operands
+pub mod Places
+pub mod Rows
+pub mod Stacks
+pub mod Stops

@@ -1,0 +1,9 @@
+//! Tests of the plain rows.
+#![tactic(auto)]
+
+#[cfg(test)]
+mod arithmetic;
+#[cfg(test)]
+mod program;
+#[cfg(test)]
+mod rows;
