@@ -1,7 +1,7 @@
 -- What is computed of ints and longs (JLS 4.2.2, 15.17 to 15.22; JVMS 6.5). Ints have 32 bits and longs 64, and both wrap.
-use Rattle.std.specs.Prelude.{ℕ, ◌+◌, ◌/◌, ◌%◌, ◌^◌, ℤ, pos, neg_ℤ, Option, None, Some, Bool, not, int_lt, int_le, int_rem, if◌then◌else◌}
+use Rattle.std.specs.Prelude.{◌/◌, ◌%◌, ◌^◌, ℤ, pos, neg_ℤ, Option, None, Some, Bool, not, int_lt, int_le, int_rem, if◌then◌else◌}
 use Rattle.std.specs.Ordering.{int_eq}
-use Rattle.std.specs.Int.{Width, w8, w16, w32, w64, cast_signed, cast_unsigned, int_wrapping_add, int_wrapping_sub, int_wrapping_mul, int_wrapping_div, int_wrapping_neg, int_bit_and, int_bit_or, int_bit_xor, int_shl, int_shr}
+use Rattle.std.specs.Int.{w8, w16, w32, w64, cast_signed, cast_unsigned, int_wrapping_add, int_wrapping_sub, int_wrapping_mul, int_wrapping_div, int_bit_and, int_bit_or, int_bit_xor, int_shl, int_shr}
 use Rattle.jl_ops.specs.declared.row.IntOp.{IntOp}
 use Rattle.jl_ops.specs.declared.row.IntOp.TheVariants as int_ops
 use Rattle.jl_ops.specs.declared.row.LongOp.{LongOp}

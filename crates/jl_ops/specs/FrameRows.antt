@@ -9,7 +9,6 @@ use Rattle.jl_heap.specs.Frames.{FramesState}
 use Rattle.jl_ops.specs.declared.row.IntOp.{IntOp}
 use Rattle.jl_ops.specs.declared.row.LongOp.{LongOp}
 use Rattle.jl_ops.specs.declared.row.Shift.{Shift}
-use Rattle.jl_ops.specs.declared.row.IntType.{IntType}
 use Rattle.jl_ops.specs.declared.row.FrameRow.{FrameRow}
 use Rattle.jl_ops.specs.declared.row.FrameRow.TheVariants as frame_rows
 use Rattle.jl_ops.specs.declared.stop.Stop.{Stop}

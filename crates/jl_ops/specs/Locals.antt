@@ -1,5 +1,5 @@
 -- Loads, stores and iinc (JVMS 6.5).
-use Rattle.std.specs.Prelude.{ℕ, ◌+◌, ℤ, Result, Ok, Err, Bool, nat_lt, ◌||◌, if◌then◌else◌}
+use Rattle.std.specs.Prelude.{ℕ, ◌+◌, ℤ, Result, Ok, Err, Bool, nat_lt, if◌then◌else◌}
 use Rattle.std.specs.Int.{w32, int_wrapping_add}
 use Rattle.jl_reading.specs.Reading.{◌>>=◌}
 use Rattle.jl_heap.specs.declared.value.Kind.{Kind}
@@ -7,7 +7,7 @@ use Rattle.jl_heap.specs.declared.value.Kind.TheVariants as kinds
 use Rattle.jl_heap.specs.declared.value.Value.{Value}
 use Rattle.jl_heap.specs.declared.value.Value.TheVariants as values
 use Rattle.jl_ops.specs.declared.stop.Stop.{Stop}
-use Rattle.jl_heap.specs.Frames.{FramesState, on_top, with_local, room_in, locals_in}
+use Rattle.jl_heap.specs.Frames.{FramesState, on_top, with_local, locals_in}
 use Rattle.jl_ops.specs.Operands.{kind_slots, value_in_local, value_under, wanted, int_of, no_room, in_room, put_value, without_top}
 
 -- a value of a kind in a local goes past the frame's locals

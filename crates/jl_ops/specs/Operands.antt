@@ -1,5 +1,5 @@
 -- What a row takes of the top frame and gives to it, value by value: a long is two slots (JVMS 2.6.1, 2.6.2).
-use Rattle.std.specs.Prelude.{◌≡◌, ℕ, ◌+◌, ◌≤◌, ⊤, ℤ, Option, None, Some, Result, Ok, Err, Bool, nat_lt, slice_get, if◌then◌else◌}
+use Rattle.std.specs.Prelude.{◌≡◌, ℕ, ◌+◌, ◌≤◌, ⊤, ℤ, Option, None, Some, Result, Ok, Err, nat_lt, slice_get, if◌then◌else◌}
 use Rattle.std.specs.Option.{option_and_then}
 use Rattle.jl_prim.specs.declared.numbers.ObjRef.{ObjRef}
 use Rattle.jl_heap.specs.declared.value.Kind.{Kind}
@@ -9,7 +9,7 @@ use Rattle.jl_heap.specs.declared.value.Value.TheVariants as values
 use Rattle.jl_ops.specs.declared.stop.Stop.{Stop}
 use Rattle.jl_ops.specs.declared.stop.Stop.TheVariants as stops
 use Rattle.jl_heap.specs.Values.{kind_of}
-use Rattle.jl_heap.specs.Frames.{FrameState, FramesState, top_of, value_at, on_top, with_pc, with_value, without_value, with_local, room_in, locals_in}
+use Rattle.jl_heap.specs.Frames.{FrameState, FramesState, top_of, value_at, on_top, with_pc, with_value, without_value, room_in, locals_in}
 
 -- ---- what is there
 

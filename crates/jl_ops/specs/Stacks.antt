@@ -1,5 +1,5 @@
 -- The rows that take, copy or swap slots of the stack (JVMS 6.5, pop to swap). No group of slots may cut a long.
-use Rattle.std.specs.Prelude.{ℕ, ◌+◌, Option, None, Some, Result, Ok, Err}
+use Rattle.std.specs.Prelude.{ℕ, ◌+◌, Option, Some, Result, Ok, Err}
 use Rattle.jl_reading.specs.Reading.{◌>>=◌}
 use Rattle.jl_heap.specs.declared.value.Value.{Value}
 use Rattle.jl_heap.specs.declared.value.Value.TheVariants as values

@@ -1,5 +1,5 @@
 -- How a row ends that does not go on (JVMS 6.5, the run-time exceptions of each instruction).
-use Rattle.std.specs.Prelude.{◌≡◌, ◌++◌, Option, None, Some, Bool, true, false, IsTrue, codes}
+use Rattle.std.specs.Prelude.{◌≡◌, ◌++◌, None, Some, Bool, true, false, IsTrue, codes}
 use Rattle.std.specs.Fmt.{decimal, signed_decimal}
 use Rattle.jl_prim.specs.declared.error_kind.ErrorKind.TheVariants as errors
 use Rattle.jl_heap.specs.declared.ends.RowEnd.{RowEnd}

@@ -9,7 +9,7 @@ ghost use Rattle.jl_ops.specs.Rows as words;
 
 use crate::arrays::{MakeEnd, array_row, make};
 use crate::branches::{branch, switch};
-use crate::decoding::row_of;
+use crate::decoding::{is_plain, row_of};
 use crate::frame_rows::frame_row;
 use crate::leaving::{leave, throw};
 use crate::messages::end_of;
@@ -146,6 +146,19 @@ fn instr_at(code: &Code, place: u32) -> Option<&Instr>
     match code {
         Code::Instructions(instrs) => first_at(instrs.as_slice(), place),
         Code::Stub(_) => None,
+    }
+}
+
+/// Whether the top frame stands at an instruction of the code that is plain.
+pub fn stands_at_plain(store: &Store, code: &Code) -> bool
+    ensures { result ≡ words.stands_at_plain code.now store.now }
+{
+    if store.frames.depth() == 0 {
+        return false;
+    }
+    match instr_at(code, store.frames.pc()) {
+        Some(instr) => is_plain(instr),
+        None => false,
     }
 }
 

@@ -20,7 +20,7 @@ mod stop;
 mod type_letters;
 
 pub use decoding::{is_plain, row_of};
-pub use executing::{exec_instr, exec_plain};
+pub use executing::{exec_instr, exec_plain, stands_at_plain};
 pub use law::each_opcode_is_shared_out;
 pub use places::next_place;
 pub use row::{
