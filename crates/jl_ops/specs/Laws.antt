@@ -28,7 +28,7 @@ some_arg op operands = args.Index 1
 abbrev pub some_instr : ℕ → Instr
 some_instr op = record { at = 0; op = op; wide = false; arg = some_arg op (operands_of op) }
 
--- What asks for classes: ldc of a string or a class, aastore, fields, calls, new objects, arrays of references, and casts. And wide, which is part of the instruction that it widens.
+-- What asks for classes: ldc whatever it loads, aastore, fields, calls, new objects, arrays of references, and casts. And wide, which is part of the instruction that it widens.
 abbrev pub asks_for_classes : ℕ → Bool
 asks_for_classes op =
     is_within ops.LDC ops.LDC_W op || (op == ops.AASTORE) || is_within ops.GETSTATIC ops.INVOKEINTERFACE op || (op == ops.NEW)
@@ -37,6 +37,14 @@ asks_for_classes op =
 -- an opcode is executed here exactly where it has a row that makes no stub and asks for no class
 abbrev pub is_shared_out : ℕ → Bool
 is_shared_out op = beq (is_plain (some_instr op)) (has_row op && not (is_stub op) && not (asks_for_classes op))
+
+-- newarray of a type
+abbrev pub new_array : ℕ → Instr
+new_array t = record { at = 0; op = ops.NEWARRAY; wide = false; arg = args.Number (pos t) }
+
+-- Of the types 4 to 11 (JVMS 6.5, newarray) those of float and double, 6 and 7, make a stub.
+abbrev pub is_type_shared_out : ℕ → Bool
+is_type_shared_out t = beq (is_plain (new_array t)) (is_within 4 11 t && not (is_within 6 7 t))
 
 -- a test holds of each number below n
 abbrev pub holds_below : (ℕ → Bool) → ℕ → Bool

@@ -52,7 +52,7 @@ row_does (rows.Branch test place) next s = branched test place next s.frames >>=
 row_does (rows.Return kind) next s = return_does kind s
 row_does rows.Throw next s = raised s.frames >>= λ f. Ok (with_frames f s)
 
--- A switch leads by its operands. What has no row here does not go on.
+-- A switch leads by its operands. Nothing is meant by the last line: what has no row is not executed here.
 abbrev pub row_by : Arg → Option Row → ℕ → Store → Result Store Stop
 row_by (args.Switch other cases) r next s = switch_does other cases s
 row_by arg (Some r) next s = row_does r next s
@@ -64,7 +64,7 @@ row i s = row_by i.arg (row_of i) (next_place i) s
 
 -- ---- the instruction at hand
 
--- the instruction that stands at a place
+-- the instruction that stands at a place: the first, and in code that was decoded the only one
 abbrev pub instr_at : Code → ℕ → Option Instr
 instr_at (codes.Instructions instrs) place = find (λ (i : Instr). i.at == place) instrs
 instr_at (codes.Stub op) place = None

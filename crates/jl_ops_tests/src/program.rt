@@ -3,9 +3,9 @@
 ghost use Rattle.std.specs.Prelude.{◌≡◌};
 ghost use Rattle.jl_heap.specs.Stores as words;
 
-use jl_code::{Arg, Instr};
+use jl_code::{Arg, Code, Instr};
 use jl_heap::{FrameKind, Frames, NewFrame, RowEnd, Shape, Store, Value};
-use jl_ops::{exec_instr, is_plain};
+use jl_ops::{exec_instr, exec_plain, is_plain, next_place, stands_at_plain};
 use jl_optable::{each_row, ops};
 use jl_prim::{ClassId, Items, MethodId};
 use std::alloc::Global;
@@ -167,4 +167,31 @@ pub fn comes(row: &str, got: &str, want: &str) -> Result<(), Fail> {
         return Ok(());
     }
     Err(Fail::new(format_args!("{got} and not {row}")))
+}
+
+/// Code whose instructions stand one behind the other.
+pub fn code_of(alloc: Global, program: &str) -> Result<Code, Fail> {
+    let mut instrs = Vec::new(alloc);
+    let mut at = 0;
+    for word in program.split(' ') {
+        let instr = instr_of(alloc, at, word)?;
+        at = next_place(&instr);
+        instrs.push(instr)?;
+    }
+    Ok(Code::Instructions(Items::from_vec(instrs)))
+}
+
+/// Executes code from its first place on, up to the first instruction that is not plain or does not go on, at most so
+/// many.
+pub fn run(alloc: Global, store: &mut Store, code: &Code, most: u32) -> Result<String, Fail> {
+    for _ in 0..most {
+        if !stands_at_plain(store, code) {
+            return shown(alloc, &store.frames);
+        }
+        match exec_plain(alloc, store, code) {
+            RowEnd::Next => {}
+            end => return end_shown(alloc, &end),
+        }
+    }
+    Err(Fail::new("too many"))
 }

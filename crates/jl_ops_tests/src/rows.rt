@@ -1,6 +1,7 @@
 //! Rows of constants, locals, stacks, branches, arrays and returns, with what the Java standard says of them.
 
-use crate::program::{comes, outcome, store_with};
+use crate::program::{code_of, comes, outcome, run, store_with};
+use jl_code::Code;
 use std::alloc::Global;
 use std::test::*;
 
@@ -248,4 +249,28 @@ fn places(rt: HostRuntime) -> Result<(), Fail> {
         assert_eq!(rt; place_behind(rt.alloc(), program)?, want, "{row}");
     }
     Ok(())
+}
+
+/// Code whose instructions stand one behind the other, and the stack where it comes to an end.
+static CODES: [&str; 4] = [
+    // the sum of 1 to 10
+    "BIPUSH:10 ISTORE_0 ICONST_0 ISTORE_1 ILOAD_1 ILOAD_0 IADD ISTORE_1 IINC:0,-1 ILOAD_0 IFGT:5 ILOAD_1 -> 55",
+    // a widened instruction, and a branch past an instruction
+    "ICONST_1 WIDE.ISTORE:0 WIDE.IINC:0,300 GOTO:15 ICONST_5 ILOAD_0 -> 301",
+    // a switch, which counts as one byte here
+    "ICONST_2 TABLESWITCH:7,1=5,2=2 ICONST_5 -> 5",
+    "ICONST_0 NEWARRAY:10 ICONST_0 IALOAD -> ArrayIndexOutOfBoundsException: Index 0 out of bounds for length 0",
+];
+
+#[test]
+fn codes(rt: HostRuntime) -> Result<(), Fail> {
+    let alloc = rt.alloc();
+    for row in &CODES {
+        let (program, want) = row.split_once(" -> ").ok_or("a row")?;
+        let mut store = store_with(alloc, 8, 4, 2)?;
+        let code = code_of(alloc, program)?;
+        comes(row, &run(alloc, &mut store, &code, 200)?, want)?;
+    }
+    let mut store = store_with(alloc, 8, 4, 2)?;
+    comes("a stub", &run(alloc, &mut store, &Code::Stub(None), 1)?, "")
 }
