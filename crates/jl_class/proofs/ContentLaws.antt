@@ -75,7 +75,8 @@ handler_stands place bytes b done at h next le e =
     let n2 = number_in (cut_in place) 2 bytes s1.0.1 s2.0 b s2.1 in
     let n3 = number_in (cut_in place) 2 bytes s2.0.1 s3.0 b s3.1 in
     let n4 = number_in (cut_in place) 2 bytes s3.0.1 s4.0 b s4.1 in
-    subst (λ (x : Handler × ℕ). Stands bytes at (handler_bytes x.0) x.1 × HandlerFits x.0) (ok_is _ _ s4.2)
+    let found : Handler = record { start = s1.0.0; end = s2.0.0; target = s3.0.0; catch_type = s4.0.0 } in
+    subst (λ (x : Handler × ℕ). Stands bytes at (handler_bytes x.0) x.1 × HandlerFits x.0) {x = (found, s4.0.1)} {y = (h, next)} (ok_is (found, s4.0.1) (h, next) s4.2)
     (join n1.stands (join n2.stands (join n3.stands n4.stands)), (n1.small, n2.small, n3.small, n4.small))
 
 handler_reads : (place : ℕ) (bytes : List ℕ) → (done : List Handler) (at : ℕ) (h : Handler) (next : ℕ) → HandlerFits h → Stands bytes at (handler_bytes h) next → handler_at place bytes at ≡ Ok (h, next)

@@ -104,7 +104,17 @@ module_stands pool bytes at m b e =
     let s6 = bind_ok (grants_at (codes "opens") (opened_named (is_set s2.0.0 0x20)) pool bytes s5.0.1) _ m s5.2 in
     let s7 = bind_ok (names_at (codes "uses") class_named pool bytes s6.0.1) _ m s6.2 in
     let s8 = bind_ok (provides_table_at pool bytes s7.0.1) _ m s7.2 in
-    let end = ended_ok bytes (_, s8.0.1) m s8.2 in
+    let found : Module = record {
+      name = s1.0.0;
+      is_open = is_set s2.0.0 0x20;
+      version = s3.0.0;
+      required = s4.0.0;
+      exports = s5.0.0;
+      opens = s6.0.0;
+      uses = s7.0.0;
+      provides = s8.0.0;
+    } in
+    let end = ended_ok bytes (found, s8.0.1) m s8.2 in
     let n1 = name_stands module_named pool bytes at s1.0 b s1.1 in
     let n2 = number_in short 2 bytes s1.0.1 s2.0 b s2.1 in
     let n3 = version_stands pool bytes s2.0.1 s3.0 b s3.1 in
@@ -114,7 +124,7 @@ module_stands pool bytes at m b e =
     let t7 = names_stand (codes "uses") class_named pool bytes s6.0.1 s7.0 b s7.1 in
     let t8 = provides_table_stands pool bytes s7.0.1 s8.0 b s8.1 in
     let tail = join t4.stands (join t5.stands (join t6.stands (join t7.stands (ends_at (length bytes) end.end t8.stands)))) in
-    subst (Content pool bytes at) end.is (record {
+    subst (Content pool bytes at) {x = found} {y = m} end.is (record {
       body = record { index = n1.index; flags = s2.0.0; version = n3.index; required = t4.rows; exports = t5.rows; opens = t6.rows; uses = t7.indices; provides = t8.rows };
       declares = record {
         fits = (n2.small, n3.number.small);

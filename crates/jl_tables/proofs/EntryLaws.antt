@@ -13,7 +13,7 @@ use Rattle.jl_prim.specs.declared.declaration.Provides.{Provides}
 use Rattle.jl_pool.specs.declared.entry.Entry.{Entry}
 use Rattle.jl_tables.specs.declared.fault.InfoFault.TheVariants as faults
 use Rattle.jl_tables.specs.Faults.{short, named_or}
-use Rattle.jl_tables.specs.Meaning.{module_named, version_named, is_among, targets_of}
+use Rattle.jl_tables.specs.Meaning.{module_named, version_named, is_set, is_among, targets_of}
 use Rattle.jl_pool.specs.Pool.{class_named}
 use Rattle.jl_classfile.specs.Spelling.{IsTable}
 use Rattle.jl_tables.specs.Spelling.{RequiresRow, GrantRow, ProvidesRow, Names, NameAll, IsRequires, IsProvides, requires_bytes, grant_bytes, provides_bytes}
@@ -147,7 +147,8 @@ requires_stand pool bytes b done at x e =
     let n1 = new_name_stands (codes "requires") module_named pool bytes (map required_name done) at s1.0 b s1.1 in
     let n2 = number_in short 2 bytes s1.0.1 s2.0 b s2.1 in
     let n3 = version_stands pool bytes s2.0.1 s3.0 b s3.1 in
-    subst (Row bytes requires_bytes (IsRequires pool) (Fresh required_name) done at) (ok_is _ _ s3.2) (record {
+    let entry : Requires = record { name = s1.0.0; transitive = is_set s2.0.0 0x20; is_static = is_set s2.0.0 0x40 } in
+    subst (Row bytes requires_bytes (IsRequires pool) (Fresh required_name) done at) {x = (entry, s3.0.1)} {y = x} (ok_is (entry, s3.0.1) x s3.2) (record {
       row = record { index = n1.name.index; flags = s2.0.0; version = n3.index };
       is = record {
         fits = (n2.small, n3.number.small);
@@ -204,7 +205,8 @@ grant_stands table named pool bytes b done at x e =
     let n1 = new_name_stands table named pool bytes (map granted_package done) at s1.0 b s1.1 in
     let n2 = number_in short 2 bytes s1.0.1 s2.0 b s2.1 in
     let n3 = names_stand (codes "targets") module_named pool bytes s2.0.1 s3.0 b s3.1 in
-    subst (Row bytes grant_bytes (GrantBy named pool) (Fresh granted_package) done at) (ok_is _ _ s3.2) (record {
+    let grant : Grant = record { «package» = s1.0.0; to = targets_of s3.0.0 } in
+    subst (Row bytes grant_bytes (GrantBy named pool) (Fresh granted_package) done at) {x = (grant, s3.0.1)} {y = x} (ok_is (grant, s3.0.1) x s3.2) (record {
       row = record { index = n1.name.index; flags = s2.0.0; targets = n3.indices };
       is = record {
         fits = n2.small;
@@ -281,7 +283,8 @@ provides_stand pool bytes b done at x e =
     let s2 = bind_ok (implementations_at pool bytes s1.0.1) _ x s1.2 in
     let n1 = new_name_stands (codes "provides") class_named pool bytes (map provided_service done) at s1.0 b s1.1 in
     let n2 = implementations_stand pool bytes s1.0.1 s2.0 b s2.1 in
-    subst (Row bytes provides_bytes (IsProvides pool) (Fresh provided_service) done at) (ok_is _ _ s2.2) (record {
+    let provided : Provides = record { service = s1.0.0; implementations = s2.0.0 } in
+    subst (Row bytes provides_bytes (IsProvides pool) (Fresh provided_service) done at) {x = (provided, s2.0.1)} {y = x} (ok_is (provided, s2.0.1) x s2.2) (record {
       row = record { index = n1.name.index; classes = n2.indices };
       is = record { named = n1.name.is; all = n2.all; some = n2.some };
       stands = join n1.name.stands n2.stands;
