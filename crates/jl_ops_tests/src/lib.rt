@@ -4,6 +4,8 @@
 #[cfg(test)]
 mod arithmetic;
 #[cfg(test)]
+mod kinds;
+#[cfg(test)]
 mod program;
 #[cfg(test)]
 mod rows;
