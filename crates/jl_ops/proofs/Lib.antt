@@ -1,1 +1,5 @@
+pub mod Naming
+pub mod NamingHeaps
+pub mod NamingLaw
+pub mod NamingRows
 mod Rows

@@ -25,6 +25,7 @@ use Rattle.jl_ops.specs.Decoding.{constant_of, kind_loaded, kind_stored, stack_r
 use Rattle.jl_ops.specs.FrameRows.{pushed, ints_computed, longs_computed, long_shifted, int_changed, long_negated, widened, narrowed, longs_compared, monitored, frame_row}
 use Rattle.jl_ops.specs.Leaving.{returned, raised}
 use Rattle.jl_ops.specs.Locals.{loaded, stored, increased}
+use Rattle.jl_ops.specs.Naming.{Names}
 use Rattle.jl_ops.specs.Places.{next_place}
 use Rattle.jl_ops.specs.Rows.{row, instr_under}
 use Rattle.jl_ops.specs.Stacks.{pop, pop2, dup, dup_x1, dup_x2, dup2, dup2_x1, dup2_x2, swap, rearranged}
@@ -236,3 +237,11 @@ a_message = refl
 
 no_message : end_of stops.Null ≡ ends.Throws errors.NullPointerException None
 no_message = refl
+
+-- ---- references
+
+a_reference : Names (store []).heap booleans
+a_reference = refl
+
+a_reference_to_nothing : Names (store []).heap (values.Ref (Some (record { 0 = 2 }))) → ⊥
+a_reference_to_nothing n = absurd cc

@@ -143,16 +143,16 @@ made letter s =
     else Ok (with_array (array_shape letter (unsigned_abs n)) s)
 
 -- what changes the top frame alone
-abbrev pub with_frames : Store → Result FramesState Stop → Result Store Stop
-with_frames s (Ok f) = Ok (record s { frames = f })
-with_frames s (Err stop) = Err stop
+abbrev pub in_frames : Store → Result FramesState Stop → Result Store Stop
+in_frames s (Ok f) = Ok (record s { frames = f })
+in_frames s (Err stop) = Err stop
 
 -- what a row of arrays does
 unfoldable pub array_row : ArrayRow → Store → Result Store Stop
-array_row (array_rows.Load wanted) s = with_frames s (element_loaded wanted s.heap s.frames)
+array_row (array_rows.Load wanted) s = in_frames s (element_loaded wanted s.heap s.frames)
 array_row (array_rows.StoreInt of) s = int_stored of s
 array_row array_rows.StoreLong s = long_stored s
-array_row array_rows.Length s = with_frames s (measured s.heap s.frames)
+array_row array_rows.Length s = in_frames s (measured s.heap s.frames)
 
 -- a row goes on
 abbrev pub goes_on : Result Store Stop → Bool

@@ -6,6 +6,7 @@ pub mod FrameRows
 pub mod Laws
 pub mod Leaving
 pub mod Locals
+pub mod Naming
 pub mod Operands
 pub mod Places
 pub mod Rows

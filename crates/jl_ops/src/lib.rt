@@ -21,7 +21,7 @@ mod type_letters;
 
 pub use decoding::{is_plain, row_of};
 pub use executing::{exec_instr, exec_plain, stands_at_plain};
-pub use law::each_opcode_is_shared_out;
+pub use law::{each_opcode_is_shared_out, rows_keep_names};
 pub use places::next_place;
 pub use row::{
     ArrayRow, Condition, Elements, FrameRow, IntOp, IntType, LongOp, Row, Shift, StackOp, Test,
