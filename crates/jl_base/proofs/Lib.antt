@@ -1,0 +1,7 @@
+-- Lemmas.
+mod Conditions
+mod Distinct
+mod Laws
+mod Makes
+mod Shape
+mod Steps

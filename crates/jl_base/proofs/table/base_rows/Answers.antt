@@ -1,0 +1,7 @@
+use Rattle.std.proofs.Common.{refl}
+use Rattle.jl_base.specs.Table.{table}
+use Rattle.jl_base.proofs.table.base_rows.Goals as goal
+
+pub returns : goal.returns
+unfolding table
+returns c = rw (c.rows.ensures, c.rows-2.ensures, c.rows-3.ensures, c.rows-4.ensures, c.rows-5.ensures, c.rows-6.ensures, c.rows-7.ensures, c.rows-8.ensures, c.rows-9.ensures) refl

@@ -1,0 +1,5 @@
+//! Tests of the built-in `java.base`.
+#![tactic(auto)]
+
+#[cfg(test)]
+mod image;
