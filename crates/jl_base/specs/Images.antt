@@ -10,11 +10,11 @@ use Rattle.jl_classw.specs.Building.{unless_empty}
 use Rattle.jl_base.specs.Rows.{Row, Member, is_field}
 use Rattle.jl_base.specs.Made.{class_made}
 
--- a field has no constant
+-- the member as a field, without a constant, if it is one
 abbrev pub field_in : Member → List FieldDecl
 field_in m = if is_field m.kind then (record { flags = m.flags; name = m.name; desc = m.desc; constant = None }) ∷ [] else []
 
--- a method, abstract or native, has no code
+-- the member as a method, without code, if it is one
 abbrev pub method_in : Member → List MethodDecl
 method_in m = if is_field m.kind then [] else (record { flags = m.flags; name = m.name; desc = m.desc; code = None }) ∷ []
 

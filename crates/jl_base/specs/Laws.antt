@@ -12,6 +12,7 @@ use Rattle.jl_base.specs.declared.row.MemberKind.{MemberKind}
 use Rattle.jl_base.specs.declared.row.MemberKind.TheVariants as kinds
 use Rattle.jl_base.specs.Rows.{Row, Member}
 
+-- the name is one of these
 abbrev pub is_among : List ℕ → List (List ℕ) → Bool
 is_among name names = list_any (is_text name) names
 
@@ -29,6 +30,7 @@ abbrev pub stand_in_order : List (List ℕ) → List Class → Bool
 stand_in_order before [] = true
 stand_in_order before (c ∷ cs) = list_all (λ name. is_among name before) (supers_of c) && stand_in_order (c.name ∷ before) cs
 
+-- by what a class is told from the others
 abbrev pub name_of : Class → List ℕ
 name_of c = c.name
 
@@ -36,7 +38,7 @@ name_of c = c.name
 abbrev pub is_in : List (List ℕ) → Class → Bool
 is_in packages c = is_among (package_of c.name) packages
 
--- Classes of a module with these packages, with which a machine can begin.
+-- A machine can begin with the classes, in a module with these packages: each stands behind its superclass and interfaces, no two have one name, each is in one of the packages, and they are at most as many as a machine can define.
 pub record IsBegin (packages : List (List ℕ)) (classes : List Class) : Type 0 where
   pub order : IsTrue (stand_in_order [] classes)
   pub apart : AreDistinct (map name_of classes)
@@ -52,9 +54,11 @@ are_apart (key ∷ keys) = not (is_member_among key keys) && are_apart keys
 abbrev pub has_members_apart : Class → Bool
 has_members_apart c = are_apart (map field_key c.fields) && are_apart (map method_key c.methods)
 
+-- either native or abstract
 abbrev pub is_bodiless : MethodDecl → Bool
 is_bodiless m = (is_native m.flags || is_abstract m.flags) && not (is_native m.flags && is_abstract m.flags)
 
+-- a method that every class may call
 abbrev pub is_public_method : MethodDecl → Bool
 is_public_method m = is_public m.flags
 

@@ -18,9 +18,11 @@ use Rattle.jl_base.specs.Made.{class_begun, class_made, with_member}
 abbrev pub is_short : List ℕ → Bool
 is_short text = nat_lt (length (text_bytes (utf16 text))) 65536
 
+-- a well-formed name of a class, which is short
 abbrev pub is_short_class : List ℕ → Bool
 is_short_class name = names_a_class name && is_short name
 
+-- no superclass, or one with such a name
 abbrev pub is_super : Option (List ℕ) → Bool
 is_super None = true
 is_super (Some name) = is_short_class name
@@ -29,9 +31,11 @@ is_super (Some name) = is_short_class name
 abbrev pub begins : Row → Bool
 begins row = are_class_flags row.flags && (is_short_class row.name && (is_super (unless_empty row.super_name) && may_extend row.flags row.name (unless_empty row.super_name)))
 
+-- Flags, name and descriptor are those of a field, of an interface or of a class.
 abbrev pub is_right_field : Bool → ℕ → List ℕ → List ℕ → Bool
 is_right_field in_interface flags name desc = are_field_flags in_interface flags && (names_a_field name && (describes_a_field desc && (is_short name && is_short desc)))
 
+-- Flags, name and descriptor are those of a method.
 abbrev pub is_right_method : ℕ → List ℕ → List ℕ → Bool
 is_right_method flags name desc = are_method_flags flags && (names_method_with flags name && (describes_method_with name desc && (is_short name && is_short desc)))
 
@@ -67,6 +71,7 @@ pub record MayAddMethod (c : Class) (flags : ℕ) (name desc : List ℕ) : Type 
 abbrev pub is_fresh : Class → Member → Bool
 is_fresh c m = not (is_member_among (record { name = m.name; desc = m.desc }) (if is_field m.kind then map field_key c.fields else map method_key c.methods))
 
+-- The member can be added to the class.
 abbrev pub may_add : Class → Member → Bool
 may_add c m = is_right_member (is_interface c.flags) m && is_fresh c m
 
@@ -80,9 +85,11 @@ abbrev pub may_add_all : Making → List Member → Bool
 may_add_all b [] = true
 may_add_all b (m ∷ ms) = may_add b.class m && if_made (λ c. may_add_all c ms) (with_member b m)
 
+-- All of them are names of classes that are short.
 abbrev pub are_interface_names : List (List ℕ) → Bool
 are_interface_names names = list_all is_short_class names
 
+-- The members of the row can be added one after the other.
 abbrev pub is_filled : Row → Bool
 is_filled row = if_made (λ b. may_add_all b row.members) (class_begun row)
 

@@ -4,10 +4,12 @@ use Rattle.std.specs.Borrow.{Bor}
 use Rattle.jl_base.specs.declared.row.MemberKind.{MemberKind}
 use Rattle.jl_base.specs.declared.row.MemberKind.TheVariants as kinds
 
+-- Every other kind is of methods.
 abbrev pub is_field : MemberKind → Bool
 is_field kinds.Field = true
 is_field _ = false
 
+-- a member by its row
 pub record Member : Type 0 where
   pub flags : ℕ
   pub name : List ℕ
@@ -22,13 +24,14 @@ pub record Row : Type 0 where
   pub interfaces : List (List ℕ)
   pub members : List Member
 
+-- a member as the program has it, and a class
 abbrev pub MemberParts : Type 0
 MemberParts = ℕ × Bor (List ℕ) × Bor (List ℕ) × MemberKind
 
 abbrev pub RowParts : Type 0
 RowParts = ℕ × Bor (List ℕ) × Bor (List ℕ) × Bor (List (Bor (List ℕ))) × Bor (List MemberParts)
 
--- a member and a row by what the program has of them
+-- a member and a class by what the program has of them
 abbrev pub member_of : MemberParts → Member
 member_of m = record { flags = m.0; name = m.1.now; desc = m.2.now; kind = m.3 }
 

@@ -32,33 +32,42 @@ kept_row r = record {
   members = map (λ m. record { flags = m.0; name = m.1.now; desc = m.2.now; kind = m.3 }) r.4.now;
 }
 
+-- what programs are made of in java.lang
 unfoldable pub values_rows : List Row
 values_rows = map kept_row VALUES
 
+-- the interfaces of java.lang
 unfoldable pub interfaces_rows : List Row
 interfaces_rows = map kept_row INTERFACES
 
+-- Throwable and the exceptions
 unfoldable pub exceptions_rows : List Row
 exceptions_rows = map kept_row EXCEPTIONS
 
+-- the errors
 unfoldable pub errors_rows : List Row
 errors_rows = map kept_row ERRORS
 
+-- java.util
 unfoldable pub collections_rows : List Row
 collections_rows = map kept_row COLLECTIONS
 
+-- System, classes and modules, and java.io
 unfoldable pub system_rows : List Row
 system_rows = map kept_row SYSTEM
 
+-- java.lang.reflect
 unfoldable pub reflection_rows : List Row
 reflection_rows = map kept_row REFLECTION
 
+-- java.lang.module and java.nio.file
 unfoldable pub modules_rows : List Row
 modules_rows = map kept_row MODULES
 
+-- jdk.internal
 unfoldable pub hidden_rows : List Row
 hidden_rows = map kept_row HIDDEN
 
--- the whole table
+-- the whole table, one part behind the other
 unfoldable pub table : List Row
 table = flat_map (λ (rows : List Row). rows) (values_rows ∷ interfaces_rows ∷ exceptions_rows ∷ errors_rows ∷ collections_rows ∷ system_rows ∷ reflection_rows ∷ modules_rows ∷ hidden_rows ∷ [])
