@@ -82,7 +82,7 @@ IsOwnPackage w (reader, p, other) = (a : Candidate) × (b : Candidate) × (candi
 abbrev pub Sees : Scene → Candidate → List ℕ → Type 0
 Sees w a p = Holds a p ⊎ ((b : Candidate) × Gets w a b p)
 
--- The module uses or provides a service whose package it does not see.
+-- The service, used or provided by the module, is in a package that it does not see.
 abbrev pub IsServicePackage : Scene → List ℕ × List ℕ → Type 0
 IsServicePackage w (name, service) = (a : Candidate) × IsMember w a × (candidate_name a ≡ name)
     × (Uses a service ⊎ IsProvidedBy a service) × (Sees w a (package_of service) → ⊥)

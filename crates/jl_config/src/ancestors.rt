@@ -1,5 +1,5 @@
-//! What the ancestors of a configuration have: its first parent, that one's ancestors, its second parent and
-//! its ancestors, and so on, each configuration once.
+//! What the ancestors of a configuration have: its parents in order, behind each of them what stands above it, and
+//! no configuration twice.
 
 ghost use Rattle.std.specs.Prelude.{◌≡◌, ◌≤◌, ◌++◌, [], ◌∷◌, length, OnOk};
 ghost use Rattle.jl_prim.specs.Limits.{most_modules};

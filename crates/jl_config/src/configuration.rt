@@ -92,7 +92,7 @@ impl Configuration {
         self.parents.as_slice()
     }
 
-    /// The modules, in the order of the bytes of their names.
+    /// The modules, by their names in byte order.
     pub fn modules(&self) -> &[Observed]
         ensures { result.now ≡ self.now.modules }
     {

@@ -42,7 +42,7 @@ pub enum ResolveFault {
         package: Name,
         other: Name,
     },
-    /// A module uses or provides a service whose package it neither has nor reads.
+    /// The service, used or provided by the module, is in a package that it neither has nor gets.
     ServicePackage {
         module: Name,
         service: Name,

@@ -18,15 +18,15 @@ use jl_names::package_of;
 use jl_prim::{Copied, CopyEnd, Grant, Name};
 use std::alloc::Global;
 
-/// A module uses or provides a service whose package it neither has nor gets.
+/// The service, used or provided by the module, is in a package that it neither has nor gets.
 #[derive(Debug, PartialEq, Eq, PartialOrd, Ord, Drop)]
 pub struct UnseenService {
     pub module: Name,
     pub service: Name,
 }
 
-/// The least module that uses or provides a service whose package it neither has nor gets, with the least
-/// such service, where no module reads two of one name.
+/// The least module with a service of which it neither has nor gets the package, and the least such service of
+/// it, where no module reads two of one name.
 pub fn least_service(
     alloc: Global,
     scene: &Scene,

@@ -10,7 +10,7 @@ use Rattle.jl_prim.specs.declared.declaration.ParentLoader.{ParentLoader}
 use Rattle.jl_prim.specs.declared.declaration.ParentLoader.TheVariants.{Null, Loader}
 use Rattle.jl_loaders.specs.declared.constraint.Constraint.{Constraint}
 
--- A loader: the packages of its modules, those that a module which one of them reads exports to it, each with its module, and the loader to which it turns last.
+-- A loader: the packages of its modules, those that these get from other modules by exports, each with its module, and the loader to which it turns last.
 pub record Parts : Type 0 where
   pub own : List (List ℕ × ModuleId)
   pub seen : List (List ℕ × ModuleId)

@@ -121,7 +121,7 @@ impl Loaders {
         // The constraint is added, and nothing is violated by it.
         ensures adds { OnOk result (self.new ≡ with_constraint name.now l l2 self.old) }
         ensures stands { OnOk result (IsViolated (with_constraint name.now l l2 self.old) → ⊥) }
-        // A clash names the modules of the two groups, the first given loader's first.
+        // A clash names the two modules in the order in which the loaders were given.
         ensures refused { IfErr result (IsRefusal self.old name.now l l2) }
         ensures kept { OnErr result (self.new ≡ self.old) }
     {

@@ -10,7 +10,7 @@ use std::alloc::Global;
 use std::marker::Model;
 use std::snapshot::Snapshot;
 
-/// The packages of a loader's modules, the packages that a module which one of them reads exports to it, each with
+/// The packages of a loader's modules, and those that these get from other modules by exports, each with
 /// its module, and the parent loader. What runs has one map of them, and contracts see them as they were given.
 #[derive(Drop)]
 pub struct LoaderParts {
