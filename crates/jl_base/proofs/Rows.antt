@@ -1,16 +1,13 @@
 -- Worked rows: a class of two members, and lists of classes that stand in order or not.
-use Rattle.std.proofs.Common.{◌≡◌, ℕ, List, [], ◌∷◌, map, Bool, true, false, None, Some, refl}
+use Rattle.std.proofs.Common.{◌≡◌, [], ◌∷◌, true, false, None, Some, refl}
 use Rattle.std.specs.Prelude.{codes}
 use Rattle.jl_names.specs.Names.{package_of}
-use Rattle.jl_class.specs.declared.member.FieldDecl.{FieldDecl}
-use Rattle.jl_class.specs.declared.member.MethodDecl.{MethodDecl}
-use Rattle.jl_class.specs.Classes.{Class}
 use Rattle.jl_base.specs.declared.row.MemberKind.TheVariants as kinds
 use Rattle.jl_base.specs.Base.{base_declaration}
 use Rattle.jl_base.specs.Rows.{Row, Member}
 use Rattle.jl_base.specs.Images.{class_of}
-use Rattle.jl_base.specs.Ready.{is_as_said, is_right_member}
-use Rattle.jl_base.specs.Laws.{stand_in_order, is_in, are_apart, is_of_its_kind, boxed_rows}
+use Rattle.jl_base.specs.Ready.{is_as_said}
+use Rattle.jl_base.specs.Laws.{stand_in_order, is_in, are_apart, boxed_rows}
 
 field : Member
 field = record { flags = 0x19; name = codes "out"; desc = codes "I"; kind = kinds.Field }

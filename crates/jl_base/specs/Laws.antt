@@ -38,7 +38,7 @@ name_of c = c.name
 abbrev pub is_in : List (List ℕ) → Class → Bool
 is_in packages c = is_among (package_of c.name) packages
 
--- A machine can begin with the classes, in a module with these packages: each stands behind its superclass and interfaces, no two have one name, each is in one of the packages, and they are at most as many as a machine can define.
+-- A machine can begin with the classes, where its module has these packages: what a class extends or implements comes before it, no name comes again, no class is outside the packages, and a machine has room for all.
 pub record IsBegin (packages : List (List ℕ)) (classes : List Class) : Type 0 where
   pub order : IsTrue (stand_in_order [] classes)
   pub apart : AreDistinct (map name_of classes)

@@ -18,11 +18,11 @@ use Rattle.jl_base.specs.Rows.{Row, RowParts, row_of}
 abbrev pub rows_of : List (Bor (List RowParts)) → List Row
 rows_of parts = flat_map (λ part. map row_of part.now) parts
 
--- a text or a list in a constant
+-- A text or a list in a constant, which has no place: a constant is seen by what it says alone, and what the program lends of it by its place too. So a row is read in two ways.
 abbrev pub Kept : Type 0 → Type 0
 Kept A = record { now : A }
 
--- a row of a constant
+-- a row of a constant, as `row_of` is one of what is lent
 abbrev pub kept_row : ℕ × Kept (List ℕ) × Kept (List ℕ) × Kept (List (Kept (List ℕ))) × Kept (List (ℕ × Kept (List ℕ) × Kept (List ℕ) × MemberKind)) → Row
 kept_row r = record {
   flags = r.0;

@@ -25,7 +25,8 @@ pub struct BaseImage {
     pub classes: Items<ClassDecl>,
 }
 
-/// The image that `base_rows` says: a class for each row, in order, each behind its superclass and its interfaces.
+/// The image that `base_rows` says: a class for each row, in order, so that what a class extends or implements comes
+/// before it.
 ///
 /// Only memory can be wanting.
 pub fn base_image(alloc: Global) -> Result<BaseImage, BaseFault>

@@ -9,8 +9,8 @@ ghost use Rattle.jl_base.specs.Ready.{is_ready};
 ghost use Rattle.jl_base.specs.Images.{class_of};
 ghost use Rattle.jl_base.specs.Table.{table};
 
-/// Says that a machine can begin with the classes: each stands behind its superclass and its interfaces, no two
-/// have one name, each is in a package of the declaration, and there are at most 65,536.
+/// Says that a machine can begin with the classes: what a class extends or implements comes before it (JLS 8.1.4,
+/// 8.1.5), no name comes again, no class is outside the packages of the declaration, and 65,536 is not passed.
 pub fn a_machine_begins()
     ensures { IsBegin base_declaration.packages (map class_of table) }
 {}

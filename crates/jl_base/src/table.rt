@@ -31,8 +31,8 @@ mod values;
 
 use crate::row::ClassRow;
 
-/// The classes of the built-in `java.base`, in parts, each class behind its superclass and its interfaces. Every
-/// method is abstract or native. A class or a member that is not listed is not there.
+/// The classes of the built-in `java.base`, in parts. What a class extends or implements comes before it. Every method
+/// is abstract or native. A class or a member that is not listed is not there.
 pub fn base_rows() -> [&'static [ClassRow]; 9]
     ensures { rows_of result ≡ table }
 {
