@@ -85,7 +85,7 @@ pub record MeansMember (w : Scene) (name : List ℕ) (s : Candidate) : Type 0 wh
   pub meant : located w name ≡ Some s
   pub member : IsMember w s
 
--- to a member a name means the member that is located by it, or where there is none, the module of the first ancestor that has it
+-- what a name means to a member: the member that is located by it, or if none is, what the ancestors have first under the name
 abbrev pub MeansHere : Scene → List ℕ → Candidate → Type 0
 MeansHere w name s = MeansMember w name s ⊎ (((m : Candidate) → MeansMember w name m → ⊥) × (located_above w name ≡ Some s))
 

@@ -98,8 +98,8 @@ fn place_of_member(scene: &Scene, marks: &[bool], name: &Name) -> Option<usize>
     }
 }
 
-/// The place of the module that a name means to a member: the member that is located by it, or else the module
-/// of the first ancestor that has it.
+/// The place of what a name means to a member: the member that is located by it, or if none is, what the ancestors
+/// have first under the name.
 fn place_meant_here(scene: &Scene, marks: &[bool], name: &Name) -> Option<usize>
     ensures { result ≡ here_place scene.now marks.now name.now }
 {
