@@ -99,6 +99,13 @@ impl Configuration {
         self.modules.as_slice()
     }
 
+    /// Says that the modules stand in the order of their names. There is nothing to run.
+    pub fn in_order(&self)
+        ensures { RisesBy module_cmp self.now.modules }
+    {
+        let _ = &self.modules;
+    }
+
     /// Which module reads which, in the order of the readers and then of the modules that are read.
     pub fn reads(&self) -> &[Read]
         ensures { result.now ≡ self.now.reads }

@@ -53,6 +53,13 @@ impl Loaders {
         }
     }
 
+    /// How many loaders there are.
+    pub fn count(&self) -> usize
+        ensures { result ≡ length self.now.loaders }
+    {
+        self.loaders.len()
+    }
+
     /// Makes room for so many more loaders.
     pub fn room(&mut self, n: usize) -> Result<(), LoadersEnd>
         ensures same { IsAsBefore self.old self.new }
