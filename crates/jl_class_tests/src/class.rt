@@ -1,6 +1,6 @@
 //! Tests of jl_class.
 
-use jl_class::{ClassDecl, read_class};
+use jl_class::{ClassDecl, ClassFault, read_class};
 use jl_making::{bytes_of_lines, case_of, comes, edited_in, same};
 use std::alloc::Global;
 use std::test::*;
@@ -26,9 +26,14 @@ pub const FILLED: [&str; 7] = [
     "0001 0001 00000000",
 ];
 
+/// The class that a file declares, of which a test needs to know no more.
+pub fn class_of(alloc: Global, file: &[u8]) -> Result<ClassDecl, ClassFault> {
+    read_class(alloc, file)
+}
+
 /// What comes of reading a file: `read`, or the fault.
 fn outcome(alloc: Global, file: &[u8]) -> Result<String, Fail> {
-    match read_class(alloc, file) {
+    match class_of(alloc, file) {
         Ok(_) => Ok(String::from_str(alloc, "read")?),
         Err(fault) => Ok(format!(in alloc; "{fault:?}")?),
     }
@@ -44,16 +49,9 @@ pub fn all_come(alloc: Global, lines: &[&str], rows: &[&str]) -> Result<(), Fail
     Ok(())
 }
 
-/// The places where a number, a text or a content of the smallest file begins. Each front is cut there.
-#[test]
-fn cut_files(rt: HostRuntime) -> Result<(), Fail> {
-    let alloc = rt.alloc();
-    let file = bytes_of_lines(alloc, &SMALLEST)?;
-    let places = [
-        0, 4, 6, 8, 10, 11, 13, 16, 17, 19, 20, 22, 38, 39, 41, 43, 45, 47, 49, 51, 53,
-    ];
+/// Tries each front of a file, where numbers, texts and contents begin at these places: each is cut there.
+fn all_cut(alloc: Global, file: &[u8], places: &[usize]) -> Result<(), Fail> {
     let mut place = 0;
-    assert_eq!(rt; file.len(), 55);
     for n in 0..file.len() {
         if places.contains(&n) {
             place = n;
@@ -62,6 +60,16 @@ fn cut_files(rt: HostRuntime) -> Result<(), Fail> {
         same(outcome(alloc, &file[..n])?.as_str(), want.as_str())?;
     }
     Ok(())
+}
+
+#[test]
+fn cut_files(rt: HostRuntime) -> Result<(), Fail> {
+    static PLACES: [usize; 21] = [
+        0, 4, 6, 8, 10, 11, 13, 16, 17, 19, 20, 22, 38, 39, 41, 43, 45, 47, 49, 51, 53,
+    ];
+    let file = bytes_of_lines(rt.alloc(), &SMALLEST)?;
+    assert_eq!(rt; file.len(), 55);
+    all_cut(rt.alloc(), &file, &PLACES)
 }
 
 #[test]
@@ -277,41 +285,63 @@ fn attributes_of_a_class(rt: HostRuntime) -> Result<(), Fail> {
     all_come(rt.alloc(), &FILLED, &ROWS)
 }
 
+/// What stands at the front of a class: version, flags, its name and that of its superclass.
+fn front_of(alloc: Global, class: &ClassDecl) -> Result<String, Fail> {
+    let (name, above) = (class.name(), class.super_name());
+    Ok(format!(in alloc; "{:?} {} {name} {above:?}", class.version(), class.flags())?)
+}
+
+/// The interfaces, fields and methods of a class.
+fn members_of(alloc: Global, class: &ClassDecl) -> Result<String, Fail> {
+    let (fields, methods) = (class.fields(), class.methods());
+    Ok(format!(in alloc; "{:?} {fields:?} {methods:?}", class.interfaces())?)
+}
+
+/// What a class declares, but for its pool.
+pub fn parts_of(alloc: Global, class: &ClassDecl) -> Result<String, Fail> {
+    let front = front_of(alloc, class)?;
+    let members = members_of(alloc, class)?;
+    Ok(format!(in alloc; "{front} {members}")?)
+}
+
 /// What a file declares, but for its pool.
 fn shown(alloc: Global, lines: &[&str], edits: &str) -> Result<String, Fail> {
     let file = bytes_of_lines(alloc, lines)?;
-    let class = read_class(alloc, &edited_in(alloc, &file, edits)?)?;
-    let (name, above) = (class.name(), class.super_name());
-    let front = format!(in alloc; "{:?} {} {name} {above:?}", class.version(), class.flags())?;
-    let (fields, methods) = (class.fields(), class.methods());
-    Ok(format!(in alloc; "{front} {:?} {fields:?} {methods:?}", class.interfaces())?)
+    let class = class_of(alloc, &edited_in(alloc, &file, edits)?)?;
+    parts_of(alloc, &class)
+}
+
+/// Tries each row on a file: its edits, and what it declares then.
+fn all_shown(alloc: Global, lines: &[&str], rows: &[&str]) -> Result<(), Fail> {
+    for row in rows {
+        let (edits, want) = row.split_once(" -> ").ok_or("a row")?;
+        comes(row, shown(alloc, lines, edits)?.as_str(), want)?;
+    }
+    Ok(())
 }
 
 #[test]
 fn parts_of_classes(rt: HostRuntime) -> Result<(), Fail> {
-    let alloc = rt.alloc();
-    let rows = [
-        ("0 0 -", "(53, 0) 33 p/A Some(java/lang/Object) [] [] []"),
-        ("43 4 00040000", "(53, 0) 33 java/lang/Object None [] [] []"),
-        (
-            "4 4 00010036",
-            "(54, 1) 33 p/A Some(java/lang/Object) [] [] []",
-        ),
-        (
-            "47 2 000200020004",
-            "(53, 0) 33 p/A Some(java/lang/Object) [p/A, java/lang/Object] [] []",
-        ),
+    static ROWS: [&str; 4] = [
+        "0 0 - -> (53, 0) 33 p/A Some(java/lang/Object) [] [] []",
+        "43 4 00040000 -> (53, 0) 33 java/lang/Object None [] [] []",
+        "4 4 00010036 -> (54, 1) 33 p/A Some(java/lang/Object) [] [] []",
+        "47 2 000200020004 -> (53, 0) 33 p/A Some(java/lang/Object) [p/A, java/lang/Object] [] []",
     ];
-    for (edits, want) in rows {
-        same(shown(alloc, &SMALLEST, edits)?.as_str(), want)?;
-    }
-    let want = "(53, 0) 33 p/A Some(java/lang/Object) [] \
+    all_shown(rt.alloc(), &SMALLEST, &ROWS)
+}
+
+#[test]
+fn parts_of_a_filled_class(rt: HostRuntime) -> Result<(), Fail> {
+    static ROWS: [&str; 1] = [
+        "0 0 - -> (53, 0) 33 p/A Some(java/lang/Object) [] \
         [FieldDecl { flags: 8, name: x, desc: I, constant: Some(13) }] \
         [MethodDecl { flags: 1, name: x, desc: ()V, code: Some(CodeBytes { \
         max_stack: 1, max_locals: 2, code: Items { items: [177] }, \
         handlers: Items { items: [Handler { start: 0, end: 1, target: 2, catch_type: 3 }] }, \
-        frames: Some(Items { items: [9] }) }) }]";
-    same(shown(alloc, &FILLED, "0 0 -")?.as_str(), want)
+        frames: Some(Items { items: [9] }) }) }]",
+    ];
+    all_shown(rt.alloc(), &FILLED, &ROWS)
 }
 
 /// Where the field and the method of a name and a descriptor stand.
@@ -320,20 +350,37 @@ fn found(class: &ClassDecl, name: &str, desc: &str) -> (Option<usize>, Option<us
     (class.field(name, desc), class.method(name, desc))
 }
 
-#[test]
-fn members_are_found(rt: HostRuntime) -> Result<(), Fail> {
-    let alloc = rt.alloc();
-    let class = read_class(alloc, &bytes_of_lines(alloc, &FILLED)?)?;
-    assert_eq!(rt; class.pool().class(4), Some(3));
-    let rows = [
-        ("x", "I", (Some(0), None)),
-        ("x", "()V", (None, Some(0))),
-        ("x", "J", (None, None)),
-        ("y", "I", (None, None)),
-        ("y", "()V", (None, None)),
-    ];
-    for (name, desc, want) in rows {
-        assert_eq!(rt; found(&class, name, desc), want, "{name}{desc}");
+/// Looks for the name and descriptor of each row, and sees where they are found.
+fn all_found(alloc: Global, class: &ClassDecl, rows: &[&str]) -> Result<(), Fail> {
+    for row in rows {
+        let (member, want) = row.split_once(" -> ").ok_or("a row")?;
+        let (name, desc) = member.split_once(' ').ok_or("a name")?;
+        let (field, method) = found(class, name, desc);
+        comes(
+            row,
+            format!(in alloc; "{field:?} {method:?}")?.as_str(),
+            want,
+        )?;
     }
     Ok(())
+}
+
+/// The index of the text that entry 4 names, which is a class.
+fn entry_4(class: &ClassDecl) -> Option<u16> {
+    class.pool().class(4)
+}
+
+#[test]
+fn members_are_found(rt: HostRuntime) -> Result<(), Fail> {
+    static ROWS: [&str; 5] = [
+        "x I -> Some(0) None",
+        "x ()V -> None Some(0)",
+        "x J -> None None",
+        "y I -> None None",
+        "y ()V -> None None",
+    ];
+    let alloc = rt.alloc();
+    let class = class_of(alloc, &bytes_of_lines(alloc, &FILLED)?)?;
+    assert_eq!(rt; entry_4(&class), Some(3));
+    all_found(alloc, &class, &ROWS)
 }

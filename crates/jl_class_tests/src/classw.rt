@@ -3,8 +3,9 @@
 ghost use Rattle.std.specs.Prelude.{IfOk, IsUtf8};
 ghost use Rattle.jl_pool.specs.Builder.{IsShort};
 
-use crate::class::{FILLED, SMALLEST};
-use jl_class::{ClassDecl, CodeBytes, read_class};
+use crate::class::{FILLED, SMALLEST, class_of, parts_of};
+use crate::nests::nest_of;
+use jl_class::{ClassDecl, CodeBytes};
 use jl_classfile::is_version;
 use jl_classw::{
     ClassBuilder, Constant, NewEntry, WriteFault, are_class_flags, are_field_flags,
@@ -39,11 +40,24 @@ pub fn begun(
 ) -> Result<Option<ClassBuilder>, Fail> {
     let name = named(alloc, this)?;
     let above = named(alloc, above)?;
+    begun_by_names(alloc, major, flags, &name, &above)
+}
+
+fn begun_by_names(
+    alloc: Global,
+    major: u16,
+    flags: u16,
+    name: &Name,
+    above: &Name,
+) -> Result<Option<ClassBuilder>, Fail>
+    requires utf8 { IsUtf8 name.now × IsUtf8 above.now }
+    requires short { IsShort name.now }
+{
     if !is_version(major, 0)
         || !is_class_name(name.as_bytes())
-        || !is_superclass(alloc, &above)?
+        || !is_superclass(alloc, above)?
         || !are_class_flags(flags)
-        || !may_extend(flags, &name, &above)
+        || !may_extend(flags, name, above)
     {
         return Ok(None);
     }
@@ -100,18 +114,30 @@ fn with_field(alloc: Global, b: &mut ClassBuilder, line: &str) -> Result<String,
     let name = named(alloc, name)?;
     let desc = named(alloc, desc)?;
     let constant = constant(alloc, rest)?;
+    with_field_named(alloc, b, flags, &name, &desc, constant)
+}
+
+fn with_field_named(
+    alloc: Global,
+    b: &mut ClassBuilder,
+    flags: u16,
+    name: &Name,
+    desc: &Name,
+    constant: Option<Constant>,
+) -> Result<String, Fail>
+    requires utf8 { IsUtf8 name.now × IsUtf8 desc.now }
+    requires short { IsShort name.now × IsShort desc.now }
+{
     if !are_field_flags(b.is_interface(), flags)
         || !is_field_name(name.as_bytes())
-        || !describes_a_field(alloc, &desc)?
-        || !may_have(alloc, flags, &desc, &constant)?
-        || b.has_field(&name, &desc)
+        || !describes_a_field(alloc, desc)?
+        || !may_have(alloc, flags, desc, &constant)?
+        || b.has_field(name, desc)
     {
         return refused(alloc);
     }
-    told(
-        alloc,
-        b.field(flags, name.as_bytes(), desc.as_bytes(), constant),
-    )
+    let added = b.field(flags, name.as_bytes(), desc.as_bytes(), constant);
+    told(alloc, added)
 }
 
 fn with_code(
@@ -123,19 +149,31 @@ fn with_code(
     let (flags, name, desc, _) = parts(line)?;
     let name = named(alloc, name)?;
     let desc = named(alloc, desc)?;
+    with_method_named(alloc, b, flags, &name, &desc, code)
+}
+
+fn with_method_named(
+    alloc: Global,
+    b: &mut ClassBuilder,
+    flags: u16,
+    name: &Name,
+    desc: &Name,
+    code: Option<CodeBytes>,
+) -> Result<String, Fail>
+    requires utf8 { IsUtf8 name.now × IsUtf8 desc.now }
+    requires short { IsShort name.now × IsShort desc.now }
+{
     if !are_method_flags(flags)
-        || !names_method(flags, &name)
-        || !describes_method(alloc, &name, &desc)?
+        || !names_method(flags, name)
+        || !describes_method(alloc, name, desc)?
         || !is_small(&code)
         || code.is_some() != has_code(flags)
-        || b.has_method(&name, &desc)
+        || b.has_method(name, desc)
     {
         return refused(alloc);
     }
-    told(
-        alloc,
-        b.method(flags, name.as_bytes(), desc.as_bytes(), code),
-    )
+    let added = b.method(flags, name.as_bytes(), desc.as_bytes(), code);
+    told(alloc, added)
 }
 
 /// So many handlers that each catch what the third entry names.
@@ -238,12 +276,63 @@ pub fn all_taken(alloc: Global, b: &mut ClassBuilder, rows: &[&str]) -> Result<(
     Ok(())
 }
 
+/// The file of a class, of which a test needs to know no more.
+pub fn file_of(alloc: Global, class: &ClassDecl) -> Result<Vec<u8>, WriteFault> {
+    write_class(alloc, class)
+}
+
+/// The entries of a pool as a text.
+fn pool_of(alloc: Global, class: &ClassDecl) -> Result<String, Fail> {
+    Ok(format!(in alloc; "{:?}", class.pool().entries())?)
+}
+
+/// A class as a text, with its pool.
+fn shown(alloc: Global, class: &ClassDecl) -> Result<String, Fail> {
+    let parts = parts_of(alloc, class)?;
+    let nest = nest_of(alloc, class)?;
+    let pool = pool_of(alloc, class)?;
+    Ok(format!(in alloc; "{parts} {nest} {pool}")?)
+}
+
 /// Whether bytes are read as a class that is shown as this one.
 pub fn is_read_so(alloc: Global, bytes: &[u8], class: &ClassDecl) -> Result<bool, Fail> {
-    match read_class(alloc, bytes) {
-        Ok(read) => Ok(format!(in alloc; "{read:?}")? == format!(in alloc; "{class:?}")?),
+    match class_of(alloc, bytes) {
+        Ok(read) => Ok(shown(alloc, &read)? == shown(alloc, class)?),
         Err(_) => Ok(false),
     }
+}
+
+/// Whether a class is written as these lines say, and read so.
+fn is_written_so(alloc: Global, class: &ClassDecl, lines: &[&str]) -> Result<bool, Fail> {
+    let bytes = file_of(alloc, class)?;
+    let want = bytes_of_lines(alloc, lines)?;
+    Ok(bytes.as_slice() == want.as_slice() && is_read_so(alloc, &bytes, class)?)
+}
+
+/// The class that a builder made.
+pub fn finished(b: ClassBuilder) -> Result<ClassDecl, WriteFault> {
+    b.finish()
+}
+
+/// The class `p/A` after a step that is taken so many times, and then others.
+fn built(alloc: Global, count: usize, step: &str, rows: &[&str]) -> Result<ClassDecl, Fail> {
+    let mut b = smallest(alloc)?;
+    all_added(alloc, &mut b, count, step)?;
+    all_taken(alloc, &mut b, rows)?;
+    Ok(finished(b)?)
+}
+
+/// Takes a step so many times.
+fn all_added(alloc: Global, b: &mut ClassBuilder, count: usize, line: &str) -> Result<(), Fail> {
+    for _ in 0..count {
+        same(step(alloc, b, line)?.as_str(), "added")?;
+    }
+    Ok(())
+}
+
+/// How many entries the pool of a class has.
+pub fn entry_count(class: &ClassDecl) -> usize {
+    class.pool().entries().len()
 }
 
 /// A class with an interface, fields with constants of each kind, and methods with and without code.
@@ -261,8 +350,6 @@ const BUILT: [&str; 9] = [
 
 #[test]
 fn a_class_is_built_and_written(rt: HostRuntime) -> Result<(), Fail> {
-    let alloc = rt.alloc();
-    let mut b = smallest(alloc)?;
     static ROWS: [&str; 24] = [
         "interface p/I -> added",
         "field 24 x I int 7 -> added",
@@ -290,39 +377,54 @@ fn a_class_is_built_and_written(rt: HostRuntime) -> Result<(), Fail> {
         "method 257 k ()V with 0 -> refused",
         "method 1 m ()V with 0 -> refused",
     ];
-    all_taken(alloc, &mut b, &ROWS)?;
-    let class = b.finish()?;
-    let bytes = write_class(alloc, &class)?;
-    let want = bytes_of_lines(alloc, &BUILT)?;
-    assert_eq!(rt; bytes.as_slice(), want.as_slice());
-    assert!(rt; is_read_so(alloc, &bytes, &class)?);
+    let alloc = rt.alloc();
+    let class = built(alloc, 0, "", &ROWS)?;
+    assert!(rt; is_written_so(alloc, &class, &BUILT)?);
     Ok(())
 }
 
-/// Major version, flags, name and superclass, and whether a class begins so.
-#[test]
-fn classes_begin(rt: HostRuntime) -> Result<(), Fail> {
-    let alloc = rt.alloc();
-    let rows = [
-        (53, 0x21, "p/A", "java/lang/Object", true),
-        (54, 0x600, "p/A", "java/lang/Object", true),
-        (53, 0x21, "java/lang/Object", "", true),
-        (61, 0x21, "p/A", "java/lang/Object", true),
-        (52, 0x21, "p/A", "java/lang/Object", false),
-        (62, 0x21, "p/A", "java/lang/Object", false),
-        (53, 0x200, "p/A", "java/lang/Object", false),
-        (53, 0x410, "p/A", "java/lang/Object", false),
-        (53, 0x8000, "p/A", "java/lang/Object", false),
-        (53, 0x600, "p/A", "p/B", false),
-        (53, 0x21, "p.A", "java/lang/Object", false),
-        (53, 0x21, "p/A", "p;B", false),
-        (53, 0x21, "p/A", "", false),
-    ];
-    for (major, flags, this, above, want) in rows {
-        let is_begun = begun(alloc, major, flags, this, above)?.is_some();
-        assert_eq!(rt; is_begun, want, "{major} {flags} {this} {above}");
+/// A major version, flags, a name and a superclass, and whether a class begins so.
+type Beginning = (u16, u16, &'static str, &'static str, bool);
+
+static BEGINNINGS: [Beginning; 13] = [
+    (53, 0x21, "p/A", "java/lang/Object", true),
+    (54, 0x600, "p/A", "java/lang/Object", true),
+    (53, 0x21, "java/lang/Object", "", true),
+    (61, 0x21, "p/A", "java/lang/Object", true),
+    (52, 0x21, "p/A", "java/lang/Object", false),
+    (62, 0x21, "p/A", "java/lang/Object", false),
+    (53, 0x200, "p/A", "java/lang/Object", false),
+    (53, 0x410, "p/A", "java/lang/Object", false),
+    (53, 0x8000, "p/A", "java/lang/Object", false),
+    (53, 0x600, "p/A", "p/B", false),
+    (53, 0x21, "p.A", "java/lang/Object", false),
+    (53, 0x21, "p/A", "p;B", false),
+    (53, 0x21, "p/A", "", false),
+];
+
+/// Whether a class begins so.
+fn begins(alloc: Global, row: &Beginning) -> Result<bool, Fail> {
+    let (major, flags, this, above, _) = *row;
+    Ok(begun(alloc, major, flags, this, above)?.is_some())
+}
+
+fn not_so(row: &Beginning) -> Fail {
+    let (major, flags, this, above, _) = *row;
+    Fail::new(format_args!("{major} {flags} {this} {above}"))
+}
+
+fn all_begin(alloc: Global, rows: &[Beginning]) -> Result<(), Fail> {
+    for row in rows {
+        if begins(alloc, row)? != row.4 {
+            return Err(not_so(row));
+        }
     }
     Ok(())
+}
+
+#[test]
+fn classes_begin(rt: HostRuntime) -> Result<(), Fail> {
+    all_begin(rt.alloc(), &BEGINNINGS)
 }
 
 /// A class whose pool has an entry of each kind: 12 an Integer, 13 a Float, 14 a Long, 16 a Double, 18 a
@@ -337,75 +439,95 @@ const EVERY_KIND: [&str; 6] = [
     "0001 000b 00000002 0000 0000",
 ];
 
-/// Files that are read, with those that are written then.
+/// Whether the file that lines say is written as it is read.
+fn is_kept(alloc: Global, lines: &[&str]) -> Result<bool, Fail> {
+    let bytes = bytes_of_lines(alloc, lines)?;
+    let class = class_of(alloc, &bytes)?;
+    let written = file_of(alloc, &class)?;
+    Ok(written.as_slice() == bytes.as_slice())
+}
+
+/// How long the file of a class is, which is read as the same class.
+pub fn length_written(alloc: Global, class: &ClassDecl) -> Result<usize, Fail> {
+    let written = file_of(alloc, class)?;
+    if !is_read_so(alloc, &written, class)? {
+        return Err(Fail::new("not read so"));
+    }
+    Ok(written.len())
+}
+
 #[test]
 fn what_is_read_is_written(rt: HostRuntime) -> Result<(), Fail> {
     let alloc = rt.alloc();
-    let lines = [SMALLEST.as_slice(), &EVERY_KIND, &BUILT];
-    for file in lines {
-        let bytes = bytes_of_lines(alloc, file)?;
-        let written = write_class(alloc, &read_class(alloc, &bytes)?)?;
-        assert_eq!(rt; written.as_slice(), bytes.as_slice());
-    }
-    // what was passed over is not written
-    let class = read_class(alloc, &bytes_of_lines(alloc, &FILLED)?)?;
-    let written = write_class(alloc, &class)?;
-    assert_eq!(rt; written.len(), 278);
-    assert!(rt; is_read_so(alloc, &written, &class)?);
+    assert!(rt; is_kept(alloc, &SMALLEST)?);
+    assert!(rt; is_kept(alloc, &EVERY_KIND)?);
+    assert!(rt; is_kept(alloc, &BUILT)?);
+    Ok(())
+}
+
+#[test]
+fn what_was_passed_over_is_not_written(rt: HostRuntime) -> Result<(), Fail> {
+    let alloc = rt.alloc();
+    let class = class_of(alloc, &bytes_of_lines(alloc, &FILLED)?)?;
+    assert_eq!(rt; length_written(alloc, &class)?, 278);
     Ok(())
 }
 
 /// A class with a full table of interfaces has one name more in its pool.
 #[test]
 fn interfaces_are_counted_by_two_bytes(rt: HostRuntime) -> Result<(), Fail> {
-    let alloc = rt.alloc();
-    let mut b = smallest(alloc)?;
-    for _ in 0..65535 {
-        same(with_interface(alloc, &mut b, "p/I")?.as_str(), "added")?;
-    }
-    all_taken(alloc, &mut b, &["interface p/I -> TooMany(interfaces)"])?;
-    let class = b.finish()?;
+    static ROWS: [&str; 1] = ["interface p/I -> TooMany(interfaces)"];
+    let class = built(rt.alloc(), 65535, "interface p/I", &ROWS)?;
     assert_eq!(rt; class.interfaces().len(), 65535);
-    assert_eq!(rt; class.pool().entries().len(), 7);
+    assert_eq!(rt; entry_count(&class), 7);
     Ok(())
 }
 
 #[test]
 fn handlers_are_counted_by_two_bytes(rt: HostRuntime) -> Result<(), Fail> {
-    let alloc = rt.alloc();
-    let mut b = smallest(alloc)?;
     static ROWS: [&str; 2] = [
         "method 1 m ()V with 65536 -> TooMany(handlers)",
         "method 1 m ()V with 65535 -> added",
     ];
-    all_taken(alloc, &mut b, &ROWS)?;
-    let class = b.finish()?;
+    let class = built(rt.alloc(), 0, "", &ROWS)?;
     assert_eq!(rt; class.methods().len(), 1);
-    assert_eq!(rt; class.pool().entries().len(), 9);
+    assert_eq!(rt; entry_count(&class), 9);
     Ok(())
 }
 
 /// Also those that are no part of the class count, and take no entry.
 #[test]
 fn attributes_are_counted_by_two_bytes(rt: HostRuntime) -> Result<(), Fail> {
-    let alloc = rt.alloc();
-    let mut b = smallest(alloc)?;
-    for _ in 0..65535 {
-        same(with_attribute(alloc, &mut b, "Note 00")?.as_str(), "added")?;
-    }
-    all_taken(alloc, &mut b, &["attribute Note 00 -> TooMany(attributes)"])?;
-    assert_eq!(rt; b.finish()?.pool().entries().len(), 5);
+    static ROWS: [&str; 1] = ["attribute Note 00 -> TooMany(attributes)"];
+    let class = built(rt.alloc(), 65535, "attribute Note 00", &ROWS)?;
+    assert_eq!(rt; entry_count(&class), 5);
     Ok(())
 }
 
-/// A class takes two entries, so that the 32,765 of this loop fill the pool.
+/// Enters the class of a number.
+fn enter_numbered(alloc: Global, b: &mut ClassBuilder, n: u16) -> Result<(), Fail> {
+    let line = format!(in alloc; "class C{n}")?;
+    entered(alloc, b, line.as_str())?;
+    Ok(())
+}
+
+/// Fills a pool: a class takes two entries, so that 32,765 fill it.
+fn fill(alloc: Global, b: &mut ClassBuilder) -> Result<(), Fail> {
+    for n in 0..32765u16 {
+        enter_numbered(alloc, b, n)?;
+    }
+    Ok(())
+}
+
+/// A class whose pool is full.
+fn full(alloc: Global) -> Result<ClassBuilder, Fail> {
+    let mut b = begun(alloc, 61, 0x21, "p/A", "java/lang/Object")?.ok_or("refused")?;
+    fill(alloc, &mut b)?;
+    Ok(b)
+}
+
 #[test]
 fn entries_are_counted_by_two_bytes(rt: HostRuntime) -> Result<(), Fail> {
-    let alloc = rt.alloc();
-    let mut b = begun(alloc, 61, 0x21, "p/A", "java/lang/Object")?.ok_or("refused")?;
-    for n in 0..32765u16 {
-        entered(alloc, &mut b, format!(in alloc; "class C{n}")?.as_str())?;
-    }
     static ROWS: [&str; 8] = [
         "int 7 -> TooMany(pool)",
         "field 1 x I -> TooMany(pool)",
@@ -416,7 +538,9 @@ fn entries_are_counted_by_two_bytes(rt: HostRuntime) -> Result<(), Fail> {
         "class C32764 -> 65534",
         "interface C1 -> added",
     ];
-    all_taken(alloc, &mut b, &ROWS)?;
-    assert_eq!(rt; b.finish()?.pool().entries().len(), 65535);
+    let mut b = full(rt.alloc())?;
+    all_taken(rt.alloc(), &mut b, &ROWS)?;
+    let class = finished(b)?;
+    assert_eq!(rt; entry_count(&class), 65535);
     Ok(())
 }

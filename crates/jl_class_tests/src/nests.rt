@@ -1,10 +1,9 @@
 //! Tests of jl_class and jl_classw on class files of the versions 55 to 61: nests, records and permitted subclasses.
 
-use crate::class::{SMALLEST, all_come};
-use crate::classw::{all_taken, begun, is_read_so};
-use jl_class::{ClassDecl, read_class};
-use jl_classw::write_class;
-use jl_making::{bytes_of_lines, edited_in, same};
+use crate::class::{SMALLEST, all_come, class_of};
+use crate::classw::{all_taken, begun, entry_count, file_of, finished, is_read_so, length_written};
+use jl_class::ClassDecl;
+use jl_making::{bytes_of_lines, comes, edited_in, same};
 use std::alloc::Global;
 use std::test::*;
 
@@ -17,18 +16,20 @@ const NESTED: [&str; 3] = [
     "0021 0002 0004 0000 0000 0000 0000",
 ];
 
+/// The host of the nest of a class, the members and whom it permits.
+pub fn nest_of(alloc: Global, class: &ClassDecl) -> Result<String, Fail> {
+    let permits = class.permits().map(|names| names.as_slice());
+    let (host, members) = (class.nest_host(), class.nest_members());
+    Ok(format!(in alloc; "{host:?} {members:?} {permits:?}")?)
+}
+
 /// Tries each row: the edits of the class, and the host of its nest, the members and whom it permits then.
 fn all_declare(alloc: Global, rows: &[&str]) -> Result<(), Fail> {
     let file = bytes_of_lines(alloc, &NESTED)?;
     for row in rows {
         let (edits, want) = row.split_once(" -> ").ok_or("a row")?;
-        let class = read_class(alloc, &edited_in(alloc, &file, edits)?)?;
-        let permits = class.permits().map(|names| names.as_slice());
-        let (host, members) = (class.nest_host(), class.nest_members());
-        same(
-            format!(in alloc; "{host:?} {members:?} {permits:?}")?.as_str(),
-            want,
-        )?;
+        let class = class_of(alloc, &edited_in(alloc, &file, edits)?)?;
+        same(nest_of(alloc, &class)?.as_str(), want)?;
     }
     Ok(())
 }
@@ -145,122 +146,114 @@ fn permitted_subclasses(rt: HostRuntime) -> Result<(), Fail> {
     all_come(rt.alloc(), &NESTED, &FAULTS)
 }
 
-/// What is read is written so that it is read again. A record is written without its components.
-#[test]
-fn nests_are_written(rt: HostRuntime) -> Result<(), Fail> {
-    let alloc = rt.alloc();
+/// Tries each row: the edits of the class, and how long the file is that is written of it.
+fn all_written(alloc: Global, rows: &[&str]) -> Result<(), Fail> {
     let file = bytes_of_lines(alloc, &NESTED)?;
-    let rows = [
-        ("132 2 0001 0005 00000002 000c", 142),
-        ("7 1 3d; 132 2 0001 0006 00000006 0002 000c 0002", 146),
-        ("7 1 3d; 132 2 0001 0008 00000004 0001 000c", 144),
-        (
-            "7 1 3d; 132 2 0002 0008 00000002 0000 0005 00000002 000c",
-            150,
-        ),
-        ("7 1 3d; 132 2 0001 0007 00000002 0000", 134),
-        ("7 1 3c; 132 2 0001 0008 00000004 0001 000c", 134),
-    ];
-    for (edits, length) in rows {
-        let class = read_class(alloc, &edited_in(alloc, &file, edits)?)?;
-        let written = write_class(alloc, &class)?;
-        assert_eq!(rt; written.len(), length, "{edits}");
-        assert!(rt; is_read_so(alloc, &written, &class)?, "{edits}");
+    for row in rows {
+        let (edits, want) = row.split_once(" -> ").ok_or("a row")?;
+        let class = class_of(alloc, &edited_in(alloc, &file, edits)?)?;
+        let length = length_written(alloc, &class)?;
+        comes(row, format!(in alloc; "{length}")?.as_str(), want)?;
     }
     Ok(())
 }
 
-/// The class `p/A` of this version and these flags, which extends `java/lang/Object`, after these steps: it is
-/// written, and read as the same class.
+/// What is read is written so that it is read again. A record is written without its components.
+#[test]
+fn nests_are_written(rt: HostRuntime) -> Result<(), Fail> {
+    static ROWS: [&str; 6] = [
+        "132 2 0001 0005 00000002 000c -> 142",
+        "7 1 3d; 132 2 0001 0006 00000006 0002 000c 0002 -> 146",
+        "7 1 3d; 132 2 0001 0008 00000004 0001 000c -> 144",
+        "7 1 3d; 132 2 0002 0008 00000002 0000 0005 00000002 000c -> 150",
+        "7 1 3d; 132 2 0001 0007 00000002 0000 -> 134",
+        "7 1 3c; 132 2 0001 0008 00000004 0001 000c -> 134",
+    ];
+    all_written(rt.alloc(), &ROWS)
+}
+
+/// The class `p/A` of this version and these flags, which extends `java/lang/Object`, after these steps.
 fn given(alloc: Global, major: u16, flags: u16, steps: &[&str]) -> Result<ClassDecl, Fail> {
     let mut b = begun(alloc, major, flags, "p/A", "java/lang/Object")?.ok_or("refused")?;
     all_taken(alloc, &mut b, steps)?;
-    let class = b.finish()?;
-    let written = write_class(alloc, &class)?;
-    if !is_read_so(alloc, &written, &class)? {
+    Ok(finished(b)?)
+}
+
+/// The same class after it is written and read.
+fn read_again(alloc: Global, class: &ClassDecl) -> Result<ClassDecl, Fail> {
+    let written = file_of(alloc, class)?;
+    if !is_read_so(alloc, &written, class)? {
         return Err(Fail::new("not read so"));
     }
-    Ok(read_class(alloc, &written)?)
+    Ok(class_of(alloc, &written)?)
 }
 
 /// The host, the members and whom a class permits, and how many entries it has: five at first.
 fn declared(alloc: Global, class: &ClassDecl) -> Result<String, Fail> {
-    let permits = class.permits().map(|names| names.as_slice());
-    let (host, members) = (class.nest_host(), class.nest_members());
-    let count = class.pool().entries().len();
-    Ok(format!(in alloc; "{host:?} {members:?} {permits:?} {count}")?)
+    let nest = nest_of(alloc, class)?;
+    Ok(format!(in alloc; "{nest} {}", entry_count(class))?)
 }
 
-/// Major version, flags, and steps by which a class is made, with what it declares then.
+/// Makes a class by its major version, its flags and these steps, and sees what it declares when it was written
+/// and read.
+fn gives(alloc: Global, of: (u16, u16), steps: &[&str], want: &str) -> Result<(), Fail> {
+    let class = given(alloc, of.0, of.1, steps)?;
+    let read = read_again(alloc, &class)?;
+    same(declared(alloc, &read)?.as_str(), want)
+}
+
 #[test]
-fn attributes_are_given(rt: HostRuntime) -> Result<(), Fail> {
-    let alloc = rt.alloc();
-    let rows: [(u16, u16, &[&str], &str); 6] = [
-        (
-            61,
-            0x421,
-            &[
-                "class p/B -> 6",
-                "attribute NestMembers 0002 0006 0002 -> added",
-                "attribute Record 0001 0001 0001 0000 -> added",
-                "attribute PermittedSubclasses 0001 0006 -> added",
-                "attribute Note -> added",
-                "attribute NestHost 0002 -> refused",
-                "attribute NestMembers 0000 -> refused",
-                "attribute PermittedSubclasses 0000 -> refused",
-            ],
-            "None [p/B, p/A] Some([p/B]) 10",
-        ),
-        (
-            55,
-            0x31,
-            &[
-                "attribute NestHost 0004 -> added",
-                "attribute NestHost 0004 -> refused",
-                "attribute PermittedSubclasses 00 -> added",
-            ],
-            "Some(java/lang/Object) [] None 6",
-        ),
-        // before their versions they are no part of the class
-        (
-            54,
-            0x21,
-            &["attribute NestHost 0002 -> added"],
-            "None [] None 5",
-        ),
-        (
-            60,
-            0x21,
-            &["attribute PermittedSubclasses 0000 -> added"],
-            "None [] None 5",
-        ),
-        (
-            61,
-            0x31,
-            &["attribute PermittedSubclasses 0000 -> refused"],
-            "None [] None 5",
-        ),
-        // contents of a wrong length or index
-        (
-            61,
-            0x21,
-            &[
-                "attribute NestHost 00 -> refused",
-                "attribute NestHost 000200 -> refused",
-                "attribute NestHost 0001 -> refused",
-                "attribute NestHost 0005 -> refused",
-                "attribute NestMembers -> refused",
-                "attribute NestMembers 0002 0002 -> refused",
-                "attribute NestMembers 0001 0002 00 -> refused",
-                "attribute PermittedSubclasses 0001 0003 -> refused",
-                "attribute PermittedSubclasses 0000 -> added",
-            ],
-            "None [] Some([]) 6",
-        ),
+fn all_attributes_are_given(rt: HostRuntime) -> Result<(), Fail> {
+    static STEPS: [&str; 8] = [
+        "class p/B -> 6",
+        "attribute NestMembers 0002 0006 0002 -> added",
+        "attribute Record 0001 0001 0001 0000 -> added",
+        "attribute PermittedSubclasses 0001 0006 -> added",
+        "attribute Note -> added",
+        "attribute NestHost 0002 -> refused",
+        "attribute NestMembers 0000 -> refused",
+        "attribute PermittedSubclasses 0000 -> refused",
     ];
-    for (major, flags, steps, want) in rows {
-        let class = given(alloc, major, flags, steps)?;
-        same(declared(alloc, &class)?.as_str(), want)?;
-    }
-    Ok(())
+    let want = "None [p/B, p/A] Some([p/B]) 10";
+    gives(rt.alloc(), (61, 0x421), &STEPS, want)
+}
+
+#[test]
+fn a_host_is_given(rt: HostRuntime) -> Result<(), Fail> {
+    static STEPS: [&str; 3] = [
+        "attribute NestHost 0004 -> added",
+        "attribute NestHost 0004 -> refused",
+        "attribute PermittedSubclasses 00 -> added",
+    ];
+    let want = "Some(java/lang/Object) [] None 6";
+    gives(rt.alloc(), (55, 0x31), &STEPS, want)
+}
+
+/// Before their versions they are no part of the class.
+#[test]
+fn attributes_of_later_versions(rt: HostRuntime) -> Result<(), Fail> {
+    static HOST: [&str; 1] = ["attribute NestHost 0002 -> added"];
+    static PERMITS: [&str; 1] = ["attribute PermittedSubclasses 0000 -> added"];
+    static FINAL: [&str; 1] = ["attribute PermittedSubclasses 0000 -> refused"];
+    let alloc = rt.alloc();
+    gives(alloc, (54, 0x21), &HOST, "None [] None 5")?;
+    gives(alloc, (60, 0x21), &PERMITS, "None [] None 5")?;
+    gives(alloc, (61, 0x31), &FINAL, "None [] None 5")
+}
+
+/// Contents of a wrong length or index.
+#[test]
+fn wrong_contents_are_not_given(rt: HostRuntime) -> Result<(), Fail> {
+    static STEPS: [&str; 9] = [
+        "attribute NestHost 00 -> refused",
+        "attribute NestHost 000200 -> refused",
+        "attribute NestHost 0001 -> refused",
+        "attribute NestHost 0005 -> refused",
+        "attribute NestMembers -> refused",
+        "attribute NestMembers 0002 0002 -> refused",
+        "attribute NestMembers 0001 0002 00 -> refused",
+        "attribute PermittedSubclasses 0001 0003 -> refused",
+        "attribute PermittedSubclasses 0000 -> added",
+    ];
+    gives(rt.alloc(), (61, 0x21), &STEPS, "None [] Some([]) 6")
 }
