@@ -1,5 +1,5 @@
 -- A search is the first that is given (`ModuleLayer.findModule`).
-use Rattle.std.proofs.Common.{◌≡◌, List, [], ◌∷◌, refl, Option, Some, None, Bool, true, false, cond, find}
+use Rattle.std.proofs.Common.{◌≡◌, List, [], ◌∷◌, refl, Some, None, Bool, true, false, cond, find}
 use Rattle.std.specs.Option.{option_or}
 use Rattle.jl_layer.specs.Layers.{first_given}
 use Rattle.jl_layer.specs.Orderly.{if_passes}

@@ -1,11 +1,8 @@
 -- A search among the layers above one meets the same where each stands once (`ModuleLayer.findModule`).
-use Rattle.std.proofs.Common.{◌≡◌, ◌<◌, ◌+◌, ◌||◌, ℕ, zero, suc, List, [], ◌∷◌, ◌++◌, length, find, flat_map, Option, Some, None, Bool, true, false, true≢false, inl, inr, subst, cond, if◌then◌else◌, eqb-true, eq-eqb, ne_eqb, refl, sym, ◌∙◌, ap, append-nil, add-one, arith}
-use Rattle.std.specs.Prelude.{Contains}
+use Rattle.std.proofs.Common.{◌≡◌, ◌||◌, List, [], ◌∷◌, ◌++◌, Option, Some, None, Bool, true, false, true≢false, if◌then◌else◌, eqb-true, eq-eqb, refl, sym, ◌∙◌, ap}
 use Rattle.std.specs.List.{list_any}
 use Rattle.std.specs.Option.{option_or}
-use Rattle.jl_logic.proofs.Rising.{contains_head, contains_tail, contains_cases, contains_nothing}
 use Rattle.jl_prim.specs.declared.numbers.LayerId.{LayerId}
-use Rattle.jl_prim.specs.declared.numbers.ConfigId.{ConfigId}
 use Rattle.jl_layer.specs.Layers.{first_given}
 use Rattle.jl_layer.specs.Lines.{is_layer, with_layer, joined}
 use Rattle.jl_layer.proofs.Added.{same_layer}

@@ -1,7 +1,6 @@
 -- Lines of layers: what is above a layer depends on the layers before it, and a search meets the same in a line (`ModuleLayer.findModule`).
-use Rattle.std.proofs.Common.{◌≡◌, ◌⊎◌, ◌<◌, ◌≤◌, ◌+◌, ◌&&◌, ℕ, zero, suc, List, [], ◌∷◌, ◌++◌, length, find, flat_map, get_or, Option, Some, None, Bool, true, false, nat_lt, nat_le, cond, if◌then◌else◌, inl, inr, refl, sym, ◌∙◌, ap, ap₂, subst, append-nil, append_assoc, add-one, arith}
+use Rattle.std.proofs.Common.{◌≡◌, ◌⊎◌, ◌<◌, ◌≤◌, ◌+◌, ◌&&◌, ℕ, zero, suc, List, [], ◌∷◌, ◌++◌, length, get_or, Option, Some, None, Bool, nat_lt, nat_le, if◌then◌else◌, inl, inr, refl, sym, ◌∙◌, ap, ap₂, subst, append-nil, add-one, arith}
 use Rattle.std.specs.Prelude.{Contains}
-use Rattle.std.specs.List.{list_any}
 use Rattle.std.specs.Option.{option_or}
 use Rattle.std.proofs.lemmas.Bool.{cases_lt, lt-ltb, le-leb, lt-leb}
 use Rattle.std.proofs.lemmas.List.{get_or_past}
@@ -11,7 +10,7 @@ use Rattle.jl_logic.proofs.Rising.{contains_head, contains_nothing, contains_cas
 use Rattle.jl_prim.specs.declared.numbers.LayerId.{LayerId}
 use Rattle.jl_layer.specs.declared.layer.Layer.{Layer}
 use Rattle.jl_layer.specs.Layers.{State, empty_layer, line, above, first_given}
-use Rattle.jl_layer.specs.Lines.{layer_in, line_in, above_in, is_layer, with_layer, joined, line_of, kept_line}
+use Rattle.jl_layer.specs.Lines.{layer_in, line_in, above_in, with_layer, joined, line_of, kept_line}
 use Rattle.jl_layer.proofs.Listed.{front_or, front_long, flat_map_alike}
 use Rattle.jl_layer.proofs.EachOnce.{with_itself, joined_append, joined_once, first_append, first_joined}
 
@@ -117,7 +116,7 @@ module _ (old new : List Layer) (front : IsFront old new) (below : AreBelow old)
   line_still l le = ap (joined []) (above_still (l ∷ []) (λ p c. only p c))
     where
       only : (p : LayerId) → Contains (l ∷ []) p → p.0 ≤ length old
-      only p c = elim (contains_cases l p [] c) [ | inl e ↦ subst (λ (k : LayerId). k.0 ≤ length old) e le | inr d ↦ contains_nothing p d ]
+      only p c = elim (contains_cases l p [] c) [ inl e ↦ subst (λ (k : LayerId). k.0 ≤ length old) e le | inr d ↦ contains_nothing p d ]
 
 -- ---- kept lines
 

@@ -30,8 +30,8 @@ map_alike f g h [] = refl
 map_alike f g h (x ∷ xs) = ap₂ (λ y ys. y ∷ ys) (h x) (map_alike f g h xs)
 
 -- packages of a module that come behind others
-pub modules_behind : (m : ModuleId) (first xs ys : List (List ℕ)) (pairs old new : List (List ℕ × ModuleId)) → old ≡ pairs ++ with_module m xs → new ≡ old ++ with_module m ys → new ≡ pairs ++ with_module m (xs ++ ys)
-modules_behind m first xs ys pairs old new e f =
+pub modules_behind : (m : ModuleId) (xs ys : List (List ℕ)) (pairs old new : List (List ℕ × ModuleId)) → old ≡ pairs ++ with_module m xs → new ≡ old ++ with_module m ys → new ≡ pairs ++ with_module m (xs ++ ys)
+modules_behind m xs ys pairs old new e f =
     f ∙ ap (λ l. l ++ with_module m ys) e ∙ append_assoc pairs (with_module m xs) (with_module m ys) ∙ ap (λ l. pairs ++ l) (sym (map-append (λ (p : List ℕ). (p, m)) xs ys))
 
 range_more : (a n : ℕ) → range_with_len a (suc n) ≡ range_with_len a n ++ (a + n) ∷ []

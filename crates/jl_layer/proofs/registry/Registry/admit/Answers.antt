@@ -2,14 +2,13 @@ use Rattle.std.proofs.Common.{◌≡◌, ◌∙◌, ◌++◌, ◌∷◌, [], ◌
 use Rattle.std.specs.Prelude.{Contains}
 use Rattle.std.proofs.lemmas.List.Elements.{All-contains}
 use Rattle.jl_config.specs.Located.{configuration_of}
-use Rattle.jl_prim.specs.declared.numbers.ModuleId.{ModuleId}
 use Rattle.jl_prim.specs.declared.numbers.LayerId.{LayerId}
 use Rattle.jl_layer.specs.declared.layer.Layer.{Layer}
 use Rattle.jl_layer.specs.declared.layer.Member.{Member}
 use Rattle.jl_layer.specs.Layers.{State, IsLayer}
 use Rattle.jl_layer.specs.Lines.{above_in, joined, AreLines}
 use Rattle.jl_layer.proofs.KeptLines.{more_lines}
-use Rattle.jl_layer.specs.Defining.{Asked, new_layer, new_members, next_layer, placed, module_numbers}
+use Rattle.jl_layer.specs.Defining.{Asked, new_layer, new_members, next_layer, module_numbers}
 use Rattle.jl_layer.specs.Orderly.{AreOrderly}
 use Rattle.jl_layer.proofs.Orderings.{still_orderly}
 use Rattle.jl_layer.proofs.registry.Registry.admit.Goals as goal

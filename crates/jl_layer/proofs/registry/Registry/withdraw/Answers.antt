@@ -1,4 +1,4 @@
-use Rattle.std.proofs.Common.{◌≡◌, List, take, ap, ap₂, sym, ◌∙◌, subst, subst₂}
+use Rattle.std.proofs.Common.{◌≡◌, List, take, ap, sym, ◌∙◌, subst}
 use Rattle.jl_prim.specs.declared.numbers.LayerId.{LayerId}
 use Rattle.jl_layer.specs.declared.layer.Layer.{Layer}
 use Rattle.jl_layer.specs.declared.layer.Member.{Member}
