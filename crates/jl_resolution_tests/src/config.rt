@@ -4,7 +4,7 @@ use jl_config::{
     Configuration, Read, ResolveFault, refuses_where_one_holds, resolve, resolves_always,
     resolves_once,
 };
-use jl_making::{declaration, words_in};
+use jl_making::{declaration, same, words_in};
 use jl_prim::{ConfigId, Copied, Found, Items, Name, Observed};
 use std::alloc::{AllocError, Global};
 use std::test::*;
@@ -116,14 +116,25 @@ fn resolved(alloc: Global, case: [&str; 4], binds: bool) -> Result<String, Fail>
     let before = found(alloc, before)?;
     let after = found(alloc, after)?;
     let roots = words_in(alloc, roots)?;
-    let roots = roots.as_slice();
+    resolved_below(alloc, parent, [&before, &after], roots.as_slice(), binds)
+}
+
+/// Likewise, with what the two finders have.
+fn resolved_below(
+    alloc: Global,
+    parent: &str,
+    finders: [&Found; 2],
+    roots: &[Name],
+    binds: bool,
+) -> Result<String, Fail> {
+    let [before, after] = finders;
     let answer = if parent == "-" {
-        resolve(alloc, &[], &before, &[], &after, roots, binds)
+        resolve(alloc, &[], before, &[], after, roots, binds)
     } else if parent.is_empty() {
-        resolve(alloc, &[], &before, &[ConfigId(0)], &after, roots, binds)
+        resolve(alloc, &[], before, &[ConfigId(0)], after, roots, binds)
     } else {
         let known = [parent_of(alloc, parent)?];
-        resolve(alloc, &known, &before, &[ConfigId(1)], &after, roots, binds)
+        resolve(alloc, &known, before, &[ConfigId(1)], after, roots, binds)
     };
     Ok(shown(alloc, answer)?)
 }
@@ -132,9 +143,7 @@ fn resolved(alloc: Global, case: [&str; 4], binds: bool) -> Result<String, Fail>
 fn all_come(alloc: Global, rows: &[[&str; 5]], binds: bool) -> Result<(), Fail> {
     for [parent, before, after, roots, want] in rows {
         let got = resolved(alloc, [*parent, *before, *after, *roots], binds)?;
-        if got.as_str() != *want {
-            return Err(Fail::new(format_args!("{got:?} in place of {want:?}")));
-        }
+        same(got.as_str(), want)?;
     }
     Ok(())
 }
@@ -657,14 +666,18 @@ const SEVERAL: [[&str; 5]; 14] = [
     ],
 ];
 
-#[test]
-fn several_parents(rt: HostRuntime) -> Result<(), Fail> {
-    let alloc = rt.alloc();
-    for [known, parents, before, roots, want] in SEVERAL {
-        let got = resolved_over(alloc, [known, parents, before, roots])?;
-        assert_eq!(rt; got.as_str(), want);
+/// Each case, whose answer stands behind it, comes out so.
+fn all_come_over(alloc: Global, rows: &[[&str; 5]]) -> Result<(), Fail> {
+    for [known, parents, before, roots, want] in rows {
+        let got = resolved_over(alloc, [*known, *parents, *before, *roots])?;
+        same(got.as_str(), want)?;
     }
     Ok(())
+}
+
+#[test]
+fn several_parents(rt: HostRuntime) -> Result<(), Fail> {
+    all_come_over(rt.alloc(), SEVERAL.as_slice())
 }
 
 /// Configurations each of which has the two before it as parents.
@@ -715,43 +728,43 @@ fn many_modules(alloc: Global, count: usize) -> Result<Found, Fail> {
     Ok(Found { modules })
 }
 
-/// What comes of so many modules that are all roots: the refusal, or how many are in the set.
-fn with_modules(alloc: Global, count: usize) -> Result<Result<usize, ResolveFault>, Fail> {
+/// What comes of a finder's modules over known configurations: the refusal, or how many are in the set.
+fn counted(
+    alloc: Global,
+    known: &[Configuration],
+    modules: &Found,
+    roots: &[Name],
+) -> Result<Result<usize, ResolveFault>, Fail> {
+    if known.len() > 4096 {
+        return Err(Fail::new("too many to be known"));
+    }
     let nothing = found(alloc, "")?;
-    let modules = many_modules(alloc, count)?;
-    let roots = names_of(alloc, &modules)?;
-    let answer = resolve(
-        alloc,
-        &[],
-        &modules,
-        &[ConfigId(0)],
-        &nothing,
-        roots.as_slice(),
-        false,
-    );
+    let parents = [ConfigId(0)];
+    let answer = resolve(alloc, known, modules, &parents, &nothing, roots, false);
     Ok(answer.map(|cf| cf.modules().len()))
 }
 
-/// What comes where so many configurations are known.
-fn with_known(alloc: Global, count: usize) -> Result<Result<usize, ResolveFault>, Fail> {
-    let nothing = found(alloc, "")?;
+/// What comes of so many modules that are all roots.
+fn with_modules(alloc: Global, count: usize) -> Result<Result<usize, ResolveFault>, Fail> {
+    let modules = many_modules(alloc, count)?;
+    let roots = names_of(alloc, &modules)?;
+    counted(alloc, &[], &modules, roots.as_slice())
+}
+
+/// So many empty configurations.
+fn many_known(alloc: Global, count: usize) -> Result<Vec<Configuration>, Fail> {
     let mut known = Vec::new(alloc);
     for _ in 0..count {
         known.push(Configuration::empty(alloc))?;
     }
-    if known.len() > 4096 {
-        return Err(Fail::new("too many to be known"));
-    }
-    let answer = resolve(
-        alloc,
-        known.as_slice(),
-        &nothing,
-        &[ConfigId(0)],
-        &nothing,
-        &[],
-        false,
-    );
-    Ok(answer.map(|cf| cf.modules().len()))
+    Ok(known)
+}
+
+/// What comes where so many configurations are known.
+fn with_known(alloc: Global, count: usize) -> Result<Result<usize, ResolveFault>, Fail> {
+    let known = many_known(alloc, count)?;
+    let nothing = found(alloc, "")?;
+    counted(alloc, known.as_slice(), &nothing, &[])
 }
 
 #[test]
@@ -764,12 +777,8 @@ fn limits(rt: HostRuntime) -> Result<(), Fail> {
     Ok(())
 }
 
-#[test]
-fn the_next_number(rt: HostRuntime) -> Result<(), Fail> {
-    resolves_once();
-    resolves_always();
-    refuses_where_one_holds();
-    let alloc = rt.alloc();
+/// The configuration of b over two that are empty.
+fn third(alloc: Global) -> Result<Configuration, Fail> {
     let known = [Configuration::empty(alloc), Configuration::empty(alloc)];
     let modules = found(alloc, "module a | module b")?;
     let nothing = found(alloc, "")?;
@@ -784,6 +793,16 @@ fn the_next_number(rt: HostRuntime) -> Result<(), Fail> {
         roots.as_slice(),
         false,
     )?;
+    Ok(cf)
+}
+
+#[test]
+fn the_next_number(rt: HostRuntime) -> Result<(), Fail> {
+    resolves_once();
+    resolves_always();
+    refuses_where_one_holds();
+    let cf = third(rt.alloc())?;
+    let parents = [ConfigId(2)];
     assert_eq!(rt; cf.id(), ConfigId(3));
     assert_eq!(rt; cf.parents(), parents.as_slice());
     assert_eq!(rt; cf.modules().len(), 1);

@@ -86,11 +86,18 @@ fn failed(alloc: Global, call: u64) -> Result<String, Fail> {
     Ok(format!(in alloc; "{asked} {text}")?)
 }
 
+/// Checks what comes of a failure of the first call, of the second, and so on.
+fn all_failed(alloc: Global, rows: &[&str]) -> Result<(), Fail> {
+    for (before, want) in rows.iter().enumerate() {
+        same(failed(alloc, before as u64 + 1)?.as_str(), want)?;
+    }
+    Ok(())
+}
+
 /// Listings of `m`, of `m/a` and of `m/a/p`, its declaration, and the two of `m/b`: each call may fail.
 #[test]
 fn failing_calls(rt: HostRuntime) -> Result<(), Fail> {
-    let alloc = rt.alloc();
-    let rows = [
+    static ROWS: [&str; 7] = [
         "0 ReadFault",
         "0 ReadFault",
         "0 ReadFault",
@@ -99,10 +106,7 @@ fn failing_calls(rt: HostRuntime) -> Result<(), Fail> {
         "2 ReadFault",
         "2 a m/a [p];b m/b [];",
     ];
-    for (before, want) in rows.iter().enumerate() {
-        same(failed(alloc, before as u64 + 1)?.as_str(), want)?;
-    }
-    Ok(())
+    all_failed(rt.alloc(), &ROWS)
 }
 
 /// One element so many times.
@@ -114,20 +118,28 @@ fn repeated(alloc: Global, element: &str, count: usize) -> Result<Vec<Name>, Fai
     Ok(elements)
 }
 
+/// What is found in one element so many times.
+fn found_in_repeated(alloc: Global, element: &str, count: usize) -> Result<String, Fail> {
+    let mut tree = tree_in(alloc, "m/a : a | m/a/p/X.class", &[])?;
+    let elements = repeated(alloc, element, count)?;
+    found(alloc, &mut tree, elements.as_slice())
+}
+
+fn check_repeated(alloc: Global, rows: &[(&str, usize, &str)]) -> Result<(), Fail> {
+    for (element, count, want) in rows {
+        same(found_in_repeated(alloc, element, *count)?.as_str(), want)?;
+    }
+    Ok(())
+}
+
 /// A module, and a folder without modules, at the limits and one past them.
 #[test]
 fn limits(rt: HostRuntime) -> Result<(), Fail> {
-    let alloc = rt.alloc();
-    let rows = [
+    static ROWS: [(&str, usize, &str); 4] = [
         ("m/a", 4096, "a m/a [p];"),
         ("m/a", 4097, "TooMany"),
         ("m/a/p", 65536, ""),
         ("m/a/p", 65537, "TooMany"),
     ];
-    for (element, count, want) in rows {
-        let mut tree = tree_in(alloc, "m/a : a | m/a/p/X.class", &[])?;
-        let elements = repeated(alloc, element, count)?;
-        same(found(alloc, &mut tree, elements.as_slice())?.as_str(), want)?;
-    }
-    Ok(())
+    check_repeated(rt.alloc(), &ROWS)
 }

@@ -18,11 +18,21 @@ fn line_words(alloc: Global, line: &str) -> Result<Vec<String>, Fail> {
     Ok(words)
 }
 
+/// The status of a launch with the words of a line.
+fn status(
+    alloc: Global,
+    line: &str,
+    tree: &mut impl Tree,
+    sink: &mut impl Sink,
+) -> Result<u8, Fail> {
+    let words = line_words(alloc, line)?;
+    Ok(status_of(&launch(alloc, words.as_slice(), tree, sink)))
+}
+
 /// The status, and behind it what was written.
 fn launched(alloc: Global, tree: &mut impl Tree, line: &str) -> Result<String, Fail> {
     let mut sink = MemSink::new(alloc, 2000, Items::new(alloc))?;
-    let words = line_words(alloc, line)?;
-    let status = status_of(&launch(alloc, words.as_slice(), tree, &mut sink));
+    let status = status(alloc, line, tree, &mut sink)?;
     written(alloc, status, &sink)
 }
 
@@ -219,30 +229,44 @@ fn launched_over(alloc: Global, bytes: Vec<u8>) -> Result<String, Fail> {
     )
 }
 
-/// The smallest file, cut behind so many bytes and with others there.
-#[test]
-fn wrong_declarations(rt: HostRuntime) -> Result<(), Fail> {
-    let alloc = rt.alloc();
-    let rows: [(usize, &[u8], &str); 5] = [
-        (0, &[], "Short 0"),
-        (40, &[], "Short 40"),
-        (77, &[], "Short 74"),
-        (99, &[], "Short 78"),
-        (100, &[0], "Trailing"),
-    ];
-    let smallest = plain_file(alloc, "a")?;
+/// Tries each row on a declaration file: it is cut behind so many bytes and zeros stand there, and it has this
+/// fault then.
+fn all_wrong(alloc: Global, file: &[u8], rows: &[(usize, usize, &str)]) -> Result<(), Fail> {
     for (count, more, fault) in rows {
-        let bytes = edited(alloc, smallest.as_slice(), count, smallest.len(), more)?;
+        let zeros = vec![in alloc; 0; *more]?;
+        let bytes = edited(alloc, file, *count, file.len(), &zeros)?;
         let want = format!(in alloc; "3 refused: Find Info m/a/module-info.class {fault}\n")?;
         same(launched_over(alloc, bytes)?.as_str(), want.as_str())?;
     }
-    same(launched_over(alloc, smallest)?.as_str(), SMALLEST)
+    Ok(())
+}
+
+#[test]
+fn wrong_declarations(rt: HostRuntime) -> Result<(), Fail> {
+    static ROWS: [(usize, usize, &str); 5] = [
+        (0, 0, "Short 0"),
+        (40, 0, "Short 40"),
+        (77, 0, "Short 74"),
+        (99, 0, "Short 78"),
+        (100, 1, "Trailing"),
+    ];
+    let smallest = plain_file(rt.alloc(), "a")?;
+    all_wrong(rt.alloc(), &smallest, &ROWS)?;
+    same(launched_over(rt.alloc(), smallest)?.as_str(), SMALLEST)
+}
+
+/// Tries each row: a declaration file of so many zeros, and what is written of it.
+fn all_zeros(alloc: Global, rows: &[(usize, &str)]) -> Result<(), Fail> {
+    for (count, want) in rows {
+        let bytes = vec![in alloc; 0; *count]?;
+        same(launched_over(alloc, bytes)?.as_str(), want)?;
+    }
+    Ok(())
 }
 
 #[test]
 fn long_files(rt: HostRuntime) -> Result<(), Fail> {
-    let alloc = rt.alloc();
-    let rows = [
+    static ROWS: [(usize, &str); 2] = [
         (
             4194304,
             "3 refused: Find Info m/a/module-info.class BadMagic\n",
@@ -252,11 +276,7 @@ fn long_files(rt: HostRuntime) -> Result<(), Fail> {
             "3 refused: Find TooLarge m/a/module-info.class 4194305\n",
         ),
     ];
-    for (count, want) in &rows {
-        let bytes = vec![in alloc; 0; *count]?;
-        same(launched_over(alloc, bytes)?.as_str(), want)?;
-    }
-    Ok(())
+    all_zeros(rt.alloc(), &ROWS)
 }
 
 /// A tree in memory that tells nothing, and counts its calls.
@@ -337,32 +357,42 @@ fn calls(
         most,
         calls: 0,
     };
-    let words = line_words(alloc, "resolve --module-path m a")?;
-    let status = status_of(&launch(alloc, words.as_slice(), &mut tree, &mut sink));
+    let status = status(alloc, "resolve --module-path m a", &mut tree, &mut sink)?;
     let (asked, of_tree, of_sink) = (tree.tree.asked().len(), tree.calls, sink.calls);
     let text = written(alloc, status, &sink.sink)?;
     Ok(format!(in alloc; "{of_tree} {asked} {of_sink} {text}")?)
 }
 
-/// The tree is asked six times: for `m`, `m/a` and its declaration, `m/b`, `m/b/p` and the declaration of `m/b`. No
-/// call follows the one that fails, and nothing is written.
-#[test]
-fn each_call_of_the_tree_fails(rt: HostRuntime) -> Result<(), Fail> {
-    let alloc = rt.alloc();
-    let rows = [
-        "1 0 0 6 ", "2 0 0 6 ", "3 1 0 6 ", "4 1 0 6 ", "5 1 0 6 ", "6 2 0 6 ",
-    ];
+/// What is wanted where the first call of the tree fails, the second, and so on.
+fn all_fail_in_tree(alloc: Global, rows: &[&str]) -> Result<(), Fail> {
     for (before, want) in rows.iter().enumerate() {
         same(calls(alloc, 100, &[before as u64 + 1], &[])?.as_str(), want)?;
     }
     Ok(())
 }
 
+/// Likewise of the sink.
+fn all_fail_in_sink(alloc: Global, rows: &[&str]) -> Result<(), Fail> {
+    for (before, want) in rows.iter().enumerate() {
+        same(calls(alloc, 100, &[], &[before as u64 + 1])?.as_str(), want)?;
+    }
+    Ok(())
+}
+
+/// The tree is asked six times: for `m`, `m/a` and its declaration, `m/b`, `m/b/p` and the declaration of `m/b`. No
+/// call follows the one that fails, and nothing is written.
+#[test]
+fn each_call_of_the_tree_fails(rt: HostRuntime) -> Result<(), Fail> {
+    static ROWS: [&str; 6] = [
+        "1 0 0 6 ", "2 0 0 6 ", "3 1 0 6 ", "4 1 0 6 ", "5 1 0 6 ", "6 2 0 6 ",
+    ];
+    all_fail_in_tree(rt.alloc(), &ROWS)
+}
+
 /// The sink is asked for each line. No call follows the one that fails, and the lines before it are written.
 #[test]
 fn each_call_of_the_sink_fails(rt: HostRuntime) -> Result<(), Fail> {
-    let alloc = rt.alloc();
-    let rows = [
+    static ROWS: [&str; 7] = [
         "6 2 1 7 ",
         "6 2 2 7 module a\n",
         "6 2 3 7 module a\n  reads b\n",
@@ -371,28 +401,20 @@ fn each_call_of_the_sink_fails(rt: HostRuntime) -> Result<(), Fail> {
         "6 2 6 7 module a\n  reads b\n  reads java.base\nmodule b\n  reads java.base\n",
         "6 2 6 0 module a\n  reads b\n  reads java.base\nmodule b\n  reads java.base\nmodule java.base\n",
     ];
-    for (before, want) in rows.iter().enumerate() {
-        same(calls(alloc, 100, &[], &[before as u64 + 1])?.as_str(), want)?;
-    }
-    Ok(())
+    all_fail_in_sink(rt.alloc(), &ROWS)
 }
 
 /// A sink that takes nine bytes at the most is asked for the rest of a line.
 #[test]
 fn a_slow_sink_takes_the_same(rt: HostRuntime) -> Result<(), Fail> {
     let alloc = rt.alloc();
-    let rows: [(&[u64], &str); 3] = [
-        (&[3], "6 2 3 7 module a\n  reads b"),
-        (&[5], "6 2 5 7 module a\n  reads b\n  reads j"),
-        (
-            &[],
-            "6 2 10 0 module a\n  reads b\n  reads java.base\nmodule b\n  reads java.base\nmodule java.base\n",
-        ),
-    ];
-    for (fails, want) in rows {
-        same(calls(alloc, 9, &[], fails)?.as_str(), want)?;
-    }
-    Ok(())
+    let third = "6 2 3 7 module a\n  reads b";
+    same(calls(alloc, 9, &[], &[3])?.as_str(), third)?;
+    let fifth = "6 2 5 7 module a\n  reads b\n  reads j";
+    same(calls(alloc, 9, &[], &[5])?.as_str(), fifth)?;
+    let all =
+        "6 2 10 0 module a\n  reads b\n  reads java.base\nmodule b\n  reads java.base\nmodule java.base\n";
+    same(calls(alloc, 9, &[], &[])?.as_str(), all)
 }
 
 /// A tree that answers otherwise from call to call.
@@ -454,17 +476,20 @@ impl Tree for Liar {
     }
 }
 
+/// The status of a launch over a tree that lies, after so many calls.
+fn lied(alloc: Global, calls: u64) -> Result<u8, Fail> {
+    let mut liar = Liar {
+        declaration: plain_file(alloc, "a")?,
+        calls,
+    };
+    let mut sink = MemSink::new(alloc, 2000, Items::new(alloc))?;
+    status(alloc, "resolve --module-path m:n:x a", &mut liar, &mut sink)
+}
+
 #[test]
 fn a_launch_over_a_lying_tree_returns(rt: HostRuntime) -> Result<(), Fail> {
-    let alloc = rt.alloc();
-    let words = line_words(alloc, "resolve --module-path m:n:x a")?;
     for calls in 0..6 {
-        let mut liar = Liar {
-            declaration: plain_file(alloc, "a")?,
-            calls,
-        };
-        let mut sink = MemSink::new(alloc, 2000, Items::new(alloc))?;
-        let status = status_of(&launch(alloc, words.as_slice(), &mut liar, &mut sink));
+        let status = lied(rt.alloc(), calls)?;
         assert!(rt; status == 0 || status == 3);
     }
     Ok(())

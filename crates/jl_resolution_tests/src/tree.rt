@@ -60,6 +60,34 @@ fn reads_as(
     same(got.as_str(), want)
 }
 
+/// Lists each folder below a place.
+fn all_listed(
+    alloc: Global,
+    tree: &mut impl Tree,
+    top: &str,
+    rows: &[(&str, &str)],
+) -> Result<(), Fail> {
+    for (dir, want) in rows {
+        let dir = place(alloc, top, dir)?;
+        lists_as(alloc, tree, dir.as_str(), want)?;
+    }
+    Ok(())
+}
+
+/// Reads each file below a place, with the most bytes that it may have.
+fn all_read(
+    alloc: Global,
+    tree: &mut impl Tree,
+    top: &str,
+    rows: &[(&str, usize, &str)],
+) -> Result<(), Fail> {
+    for (path, most, want) in rows {
+        let path = place(alloc, top, path)?;
+        reads_as(alloc, tree, path.as_str(), *most, want)?;
+    }
+    Ok(())
+}
+
 /// The files with these paths and texts.
 fn files_of(alloc: Global, list: &[(&str, &str)]) -> Result<Items<(Name, Items<u8>)>, Fail> {
     let mut files = Items::new(alloc);
@@ -77,9 +105,7 @@ fn small_tree(alloc: Global) -> Result<MemTree, Fail> {
 
 #[test]
 fn memory_tree_lists(rt: HostRuntime) -> Result<(), Fail> {
-    let alloc = rt.alloc();
-    let mut tree = small_tree(alloc)?;
-    let folders = [
+    static ROWS: [(&str, &str); 8] = [
         ("a", "b/ d"),
         ("a/b", "c e/"),
         ("a/b/e", "f"),
@@ -89,17 +115,13 @@ fn memory_tree_lists(rt: HostRuntime) -> Result<(), Fail> {
         ("", "none"),
         ("a/", "none"),
     ];
-    for (dir, want) in &folders {
-        lists_as(alloc, &mut tree, dir, want)?;
-    }
-    Ok(())
+    let mut tree = small_tree(rt.alloc())?;
+    all_listed(rt.alloc(), &mut tree, "", &ROWS)
 }
 
 #[test]
 fn memory_tree_reads(rt: HostRuntime) -> Result<(), Fail> {
-    let alloc = rt.alloc();
-    let mut tree = small_tree(alloc)?;
-    let reads: [(&str, usize, &str); 6] = [
+    static ROWS: [(&str, usize, &str); 6] = [
         ("a/b/c", 3, "one"),
         ("a/b/c", 2, "the file has 3 bytes"),
         ("a/d", 0, ""),
@@ -107,10 +129,8 @@ fn memory_tree_reads(rt: HostRuntime) -> Result<(), Fail> {
         ("a/x", 9, "none"),
         ("g", 1, "x"),
     ];
-    for (path, most, want) in &reads {
-        reads_as(alloc, &mut tree, path, *most, want)?;
-    }
-    Ok(())
+    let mut tree = small_tree(rt.alloc())?;
+    all_read(rt.alloc(), &mut tree, "", &ROWS)
 }
 
 fn asked_by(alloc: Global, tree: &MemTree) -> Result<String, Fail> {
@@ -122,16 +142,21 @@ fn asked_by(alloc: Global, tree: &MemTree) -> Result<String, Fail> {
     Ok(asked)
 }
 
+/// Six calls of a tree whose second, third and fifth fail.
+fn fails_by_number(alloc: Global, tree: &mut MemTree) -> Result<(), Fail> {
+    lists_as(alloc, tree, "a", "b")?;
+    reads_as(alloc, tree, "a/b", 9, "the tree failed")?;
+    lists_as(alloc, tree, "x", "the tree failed")?;
+    reads_as(alloc, tree, "x", 9, "none")?;
+    reads_as(alloc, tree, "a/b", 0, "the tree failed")?;
+    reads_as(alloc, tree, "a/b", 0, "the file has 3 bytes")
+}
+
 #[test]
 fn memory_tree_fails_by_number(rt: HostRuntime) -> Result<(), Fail> {
     let alloc = rt.alloc();
     let mut tree = tree_of(alloc, files_of(alloc, &[("a/b", "one")])?, &[2, 3, 5])?;
-    lists_as(alloc, &mut tree, "a", "b")?;
-    reads_as(alloc, &mut tree, "a/b", 9, "the tree failed")?;
-    lists_as(alloc, &mut tree, "x", "the tree failed")?;
-    reads_as(alloc, &mut tree, "x", 9, "none")?;
-    reads_as(alloc, &mut tree, "a/b", 0, "the tree failed")?;
-    reads_as(alloc, &mut tree, "a/b", 0, "the file has 3 bytes")?;
+    fails_by_number(alloc, &mut tree)?;
     let asked = asked_by(alloc, &tree)?;
     same(asked.as_str(), "a/b x a/b a/b ")
 }
@@ -141,10 +166,18 @@ fn are_two(alloc: Global, first: &str, second: &str) -> Result<bool, Fail> {
     Ok(are_of_one_tree(files.as_slice()))
 }
 
+fn all_are_two(alloc: Global, rows: &[(&str, &str, bool)]) -> Result<(), Fail> {
+    for (first, second, want) in rows {
+        if are_two(alloc, first, second)? != *want {
+            return Err(Fail::new(format_args!("{first} {second}")));
+        }
+    }
+    Ok(())
+}
+
 #[test]
 fn files_of_one_tree(rt: HostRuntime) -> Result<(), Fail> {
-    let alloc = rt.alloc();
-    let pairs = [
+    static ROWS: [(&str, &str, bool); 6] = [
         ("a", "b", true),
         ("a", "a", false),
         ("a", "a/b", false),
@@ -152,18 +185,22 @@ fn files_of_one_tree(rt: HostRuntime) -> Result<(), Fail> {
         ("a", "ab/c", true),
         ("a/b", "a/c", true),
     ];
-    for (first, second, want) in &pairs {
-        let got = are_two(alloc, first, second)?;
-        assert_eq!(rt; got, *want, "{first} {second}");
+    all_are_two(rt.alloc(), &ROWS)
+}
+
+/// Writes each piece, and sees how many bytes of it were taken.
+fn all_written(sink: &mut MemSink, rows: &[(&str, Option<usize>)]) -> Result<(), Fail> {
+    for (piece, want) in rows {
+        if sink.write(piece.as_bytes()).ok() != *want {
+            return Err(Fail::new(format_args!("{piece}")));
+        }
     }
     Ok(())
 }
 
 #[test]
 fn memory_sink_takes_what_fits(rt: HostRuntime) -> Result<(), Fail> {
-    let alloc = rt.alloc();
-    let mut sink = MemSink::new(alloc, 5, numbers(alloc, &[2])?)?;
-    let writes: [(&str, Option<usize>); 7] = [
+    static ROWS: [(&str, Option<usize>); 7] = [
         ("ab", Some(2)),
         ("c", None),
         ("cd", Some(2)),
@@ -172,10 +209,9 @@ fn memory_sink_takes_what_fits(rt: HostRuntime) -> Result<(), Fail> {
         ("", Some(0)),
         ("f", None),
     ];
-    for (piece, want) in &writes {
-        let got = sink.write(piece.as_bytes()).ok();
-        assert_eq!(rt; got, *want, "{piece}");
-    }
+    let alloc = rt.alloc();
+    let mut sink = MemSink::new(alloc, 5, numbers(alloc, &[2])?)?;
+    all_written(&mut sink, &ROWS)?;
     assert_eq!(rt; sink.bytes(), b"abcde".as_slice());
     Ok(())
 }
@@ -196,9 +232,7 @@ fn make_folders(rt: &HostRuntime, top: &str) -> Result<(), Fail> {
 }
 
 fn list_folders(rt: &HostRuntime, top: &str) -> Result<(), Fail> {
-    let alloc = rt.alloc();
-    let mut tree = FolderTree::new(rt);
-    let folders = [
+    static ROWS: [(&str, &str); 6] = [
         ("", "a/ link/"),
         ("/a", "b/ c"),
         ("/a/b", ""),
@@ -206,27 +240,31 @@ fn list_folders(rt: &HostRuntime, top: &str) -> Result<(), Fail> {
         ("/link", "b/ c"),
         ("/x", "none"),
     ];
-    for (dir, want) in &folders {
-        let dir = place(alloc, top, dir)?;
-        lists_as(alloc, &mut tree, dir.as_str(), want)?;
-    }
-    Ok(())
+    let mut tree = FolderTree::new(rt);
+    all_listed(rt.alloc(), &mut tree, top, &ROWS)
 }
 
 fn read_files(rt: &HostRuntime, top: &str) -> Result<(), Fail> {
-    let alloc = rt.alloc();
-    let mut tree = FolderTree::new(rt);
-    let reads: [(&str, usize, &str); 5] = [
+    static ROWS: [(&str, usize, &str); 5] = [
         ("/a/c", 3, "one"),
         ("/a/c", 2, "the file has 3 bytes"),
         ("/a/b", 9, "none"),
         ("/a/c/d", 9, "none"),
         ("/lost", 9, "none"),
     ];
-    for (path, most, want) in &reads {
-        let path = place(alloc, top, path)?;
-        reads_as(alloc, &mut tree, path.as_str(), *most, want)?;
+    let mut tree = FolderTree::new(rt);
+    all_read(rt.alloc(), &mut tree, top, &ROWS)
+}
+
+/// Makes folders at a place, and looks at them there.
+fn look_at_folders(rt: &HostRuntime, top: &str) -> Result<(), Fail> {
+    if fs::exists(rt, top)? {
+        fs::remove_dir_all(rt, top)?;
     }
+    make_folders(rt, top)?;
+    list_folders(rt, top)?;
+    read_files(rt, top)?;
+    fs::remove_dir_all(rt, top)?;
     Ok(())
 }
 
@@ -234,14 +272,7 @@ fn read_files(rt: &HostRuntime, top: &str) -> Result<(), Fail> {
 fn folders_are_listed_and_read(rt: HostRuntime) -> Result<(), Fail> {
     let top = env::temp_dir(&rt)?;
     let top = place(rt.alloc(), top.as_path().as_str(), "/jl_tree_folders")?;
-    if fs::exists(&rt, top.as_str())? {
-        fs::remove_dir_all(&rt, top.as_str())?;
-    }
-    make_folders(&rt, top.as_str())?;
-    list_folders(&rt, top.as_str())?;
-    read_files(&rt, top.as_str())?;
-    fs::remove_dir_all(&rt, top.as_str())?;
-    Ok(())
+    look_at_folders(&rt, top.as_str())
 }
 
 #[test]
