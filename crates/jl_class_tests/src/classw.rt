@@ -31,7 +31,7 @@ fn named(alloc: Global, text: &str) -> Result<Name, Fail>
 }
 
 /// A class by its major version, flags, name and superclass, empty for none, where it may begin so.
-pub fn begun(
+fn begun(
     alloc: Global,
     major: u16,
     flags: u16,
@@ -65,9 +65,12 @@ fn begun_by_names(
     Ok(Some(b))
 }
 
-/// The class `p/A`, which extends `java/lang/Object`.
-fn smallest(alloc: Global) -> Result<ClassBuilder, Fail> {
-    Ok(begun(alloc, 53, 0x21, "p/A", "java/lang/Object")?.ok_or("refused")?)
+/// The class `p/A` of this version and these flags, which extends `java/lang/Object`.
+pub fn made(alloc: Global, major: u16, flags: u16) -> Result<ClassBuilder, Fail> {
+    match begun(alloc, major, flags, "p/A", "java/lang/Object")? {
+        Some(b) => Ok(b),
+        None => Err(Fail::new("refused")),
+    }
 }
 
 /// What comes of a call whose conditions a builder does not meet.
@@ -268,7 +271,7 @@ fn step(alloc: Global, b: &mut ClassBuilder, line: &str) -> Result<String, Fail>
 }
 
 /// Takes each step, and sees what comes of it.
-pub fn all_taken(alloc: Global, b: &mut ClassBuilder, rows: &[&str]) -> Result<(), Fail> {
+fn all_taken(alloc: Global, b: &mut ClassBuilder, rows: &[&str]) -> Result<(), Fail> {
     for row in rows {
         let (line, want) = row.split_once(" -> ").ok_or("a step")?;
         comes(row, step(alloc, b, line)?.as_str(), want)?;
@@ -309,17 +312,17 @@ fn is_written_so(alloc: Global, class: &ClassDecl, lines: &[&str]) -> Result<boo
     Ok(bytes.as_slice() == want.as_slice() && is_read_so(alloc, &bytes, class)?)
 }
 
-/// The class that a builder made.
-pub fn finished(b: ClassBuilder) -> Result<ClassDecl, WriteFault> {
-    b.finish()
+/// The class that a builder makes after these steps.
+pub fn after(alloc: Global, mut b: ClassBuilder, steps: &[&str]) -> Result<ClassDecl, Fail> {
+    all_taken(alloc, &mut b, steps)?;
+    Ok(b.finish()?)
 }
 
 /// The class `p/A` after a step that is taken so many times, and then others.
 fn built(alloc: Global, count: usize, step: &str, rows: &[&str]) -> Result<ClassDecl, Fail> {
-    let mut b = smallest(alloc)?;
+    let mut b = made(alloc, 53, 0x21)?;
     all_added(alloc, &mut b, count, step)?;
-    all_taken(alloc, &mut b, rows)?;
-    Ok(finished(b)?)
+    after(alloc, b, rows)
 }
 
 /// Takes a step so many times.
@@ -405,7 +408,8 @@ static BEGINNINGS: [Beginning; 13] = [
 /// Whether a class begins so.
 fn begins(alloc: Global, row: &Beginning) -> Result<bool, Fail> {
     let (major, flags, this, above, _) = *row;
-    Ok(begun(alloc, major, flags, this, above)?.is_some())
+    let b = begun(alloc, major, flags, this, above)?;
+    Ok(b.is_some())
 }
 
 fn not_so(row: &Beginning) -> Fail {
@@ -439,12 +443,22 @@ const EVERY_KIND: [&str; 6] = [
     "0001 000b 00000002 0000 0000",
 ];
 
+/// Whether a class is written as these bytes.
+fn is_written_as(alloc: Global, class: &ClassDecl, bytes: &[u8]) -> Result<bool, Fail> {
+    let written = file_of(alloc, class)?;
+    Ok(written.as_slice() == bytes)
+}
+
+/// Whether a file is written as it is read.
+fn is_file_kept(alloc: Global, file: &[u8]) -> Result<bool, Fail> {
+    let class = class_of(alloc, file)?;
+    is_written_as(alloc, &class, file)
+}
+
 /// Whether the file that lines say is written as it is read.
 fn is_kept(alloc: Global, lines: &[&str]) -> Result<bool, Fail> {
-    let bytes = bytes_of_lines(alloc, lines)?;
-    let class = class_of(alloc, &bytes)?;
-    let written = file_of(alloc, &class)?;
-    Ok(written.as_slice() == bytes.as_slice())
+    let file = bytes_of_lines(alloc, lines)?;
+    is_file_kept(alloc, &file)
 }
 
 /// How long the file of a class is, which is read as the same class.
@@ -521,7 +535,7 @@ fn fill(alloc: Global, b: &mut ClassBuilder) -> Result<(), Fail> {
 
 /// A class whose pool is full.
 fn full(alloc: Global) -> Result<ClassBuilder, Fail> {
-    let mut b = begun(alloc, 61, 0x21, "p/A", "java/lang/Object")?.ok_or("refused")?;
+    let mut b = made(alloc, 61, 0x21)?;
     fill(alloc, &mut b)?;
     Ok(b)
 }
@@ -538,9 +552,7 @@ fn entries_are_counted_by_two_bytes(rt: HostRuntime) -> Result<(), Fail> {
         "class C32764 -> 65534",
         "interface C1 -> added",
     ];
-    let mut b = full(rt.alloc())?;
-    all_taken(rt.alloc(), &mut b, &ROWS)?;
-    let class = finished(b)?;
+    let class = after(rt.alloc(), full(rt.alloc())?, &ROWS)?;
     assert_eq!(rt; entry_count(&class), 65535);
     Ok(())
 }

@@ -1,7 +1,7 @@
 //! Tests of jl_class and jl_classw on class files of the versions 55 to 61: nests, records and permitted subclasses.
 
 use crate::class::{SMALLEST, all_come, class_of};
-use crate::classw::{all_taken, begun, entry_count, file_of, finished, is_read_so, length_written};
+use crate::classw::{after, entry_count, file_of, is_read_so, length_written, made};
 use jl_class::ClassDecl;
 use jl_making::{bytes_of_lines, comes, edited_in, same};
 use std::alloc::Global;
@@ -146,14 +146,25 @@ fn permitted_subclasses(rt: HostRuntime) -> Result<(), Fail> {
     all_come(rt.alloc(), &NESTED, &FAULTS)
 }
 
+/// How long the file is that is written of the class of a file.
+fn length_of(alloc: Global, file: &[u8]) -> Result<usize, Fail> {
+    let class = class_of(alloc, file)?;
+    length_written(alloc, &class)
+}
+
+/// How long the file is that is written of the class after these edits, as a text.
+fn length_after(alloc: Global, file: &[u8], edits: &str) -> Result<String, Fail> {
+    let edited = edited_in(alloc, file, edits)?;
+    let length = length_of(alloc, &edited)?;
+    Ok(format!(in alloc; "{length}")?)
+}
+
 /// Tries each row: the edits of the class, and how long the file is that is written of it.
 fn all_written(alloc: Global, rows: &[&str]) -> Result<(), Fail> {
     let file = bytes_of_lines(alloc, &NESTED)?;
     for row in rows {
         let (edits, want) = row.split_once(" -> ").ok_or("a row")?;
-        let class = class_of(alloc, &edited_in(alloc, &file, edits)?)?;
-        let length = length_written(alloc, &class)?;
-        comes(row, format!(in alloc; "{length}")?.as_str(), want)?;
+        comes(row, length_after(alloc, &file, edits)?.as_str(), want)?;
     }
     Ok(())
 }
@@ -174,18 +185,7 @@ fn nests_are_written(rt: HostRuntime) -> Result<(), Fail> {
 
 /// The class `p/A` of this version and these flags, which extends `java/lang/Object`, after these steps.
 fn given(alloc: Global, major: u16, flags: u16, steps: &[&str]) -> Result<ClassDecl, Fail> {
-    let mut b = begun(alloc, major, flags, "p/A", "java/lang/Object")?.ok_or("refused")?;
-    all_taken(alloc, &mut b, steps)?;
-    Ok(finished(b)?)
-}
-
-/// The same class after it is written and read.
-fn read_again(alloc: Global, class: &ClassDecl) -> Result<ClassDecl, Fail> {
-    let written = file_of(alloc, class)?;
-    if !is_read_so(alloc, &written, class)? {
-        return Err(Fail::new("not read so"));
-    }
-    Ok(class_of(alloc, &written)?)
+    after(alloc, made(alloc, major, flags)?, steps)
 }
 
 /// The host, the members and whom a class permits, and how many entries it has: five at first.
@@ -194,12 +194,26 @@ fn declared(alloc: Global, class: &ClassDecl) -> Result<String, Fail> {
     Ok(format!(in alloc; "{nest} {}", entry_count(class))?)
 }
 
+/// What the class of a file declares.
+fn declared_in(alloc: Global, file: &[u8]) -> Result<String, Fail> {
+    let class = class_of(alloc, file)?;
+    declared(alloc, &class)
+}
+
+/// What a class declares when it was written and read.
+fn declared_again(alloc: Global, class: &ClassDecl) -> Result<String, Fail> {
+    let written = file_of(alloc, class)?;
+    if !is_read_so(alloc, &written, class)? {
+        return Err(Fail::new("not read so"));
+    }
+    declared_in(alloc, &written)
+}
+
 /// Makes a class by its major version, its flags and these steps, and sees what it declares when it was written
 /// and read.
 fn gives(alloc: Global, of: (u16, u16), steps: &[&str], want: &str) -> Result<(), Fail> {
     let class = given(alloc, of.0, of.1, steps)?;
-    let read = read_again(alloc, &class)?;
-    same(declared(alloc, &read)?.as_str(), want)
+    same(declared_again(alloc, &class)?.as_str(), want)
 }
 
 #[test]
