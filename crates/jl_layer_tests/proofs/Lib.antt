@@ -1,0 +1,3 @@
+-- Lemmas.
+pub mod Counted
+pub mod Kept

@@ -1,0 +1,3 @@
+-- Definitions.
+pub mod Counts
+pub mod Grants
