@@ -103,7 +103,7 @@ fn spell(alloc: Global, text: &mut String, name: &Items<u8>) -> Result<(), Fail>
 }
 
 /// The questions that were asked, in a line.
-fn questions(alloc: Global, h: &ListedClasses) -> Result<String, Fail> {
+pub fn questions(alloc: Global, h: &ListedClasses) -> Result<String, Fail> {
     let mut text = String::new(alloc);
     for asked in h.asked() {
         match &asked.question {

@@ -1,14 +1,17 @@
 -- Arrays by their elements: dimensions that both have make no difference.
-use Rattle.std.proofs.Common.{◌≡◌, ℕ, zero, suc, ◌+◌, ◌-◌, ◌≤◌, Bool, true, false, ◌&&◌, List, [], ◌∷◌, length, take, drop, min, Option, None, Some, inl, inr, refl, sym, ◌∙◌, ap, arith}
+use Rattle.std.proofs.Common.{◌++◌, get_or, add-one, ◌≡◌, ℕ, zero, suc, ◌+◌, ◌≤◌, Bool, true, false, ◌&&◌, List, [], ◌∷◌, length, drop, min, Option, None, Some, inl, inr, refl, sym, ◌∙◌, ap, arith}
 use Rattle.std.specs.Prelude.{◌==◌}
-use Rattle.std.proofs.lemmas.List.{take_all}
-use Rattle.std.proofs.Math.ListN.{length-drop}
+use Rattle.std.specs.Prelude.{option_map, MatchOption, ◌≢◌}
+use Rattle.std.specs.Option.{option_copied}
+use Rattle.std.specs.Borrow.{Bor}
+use Rattle.std.specs.Str.{IsUtf8, IsCharBoundary}
+use Rattle.std.proofs.lemmas.Str.{IsCharBoundary-start, IsCharBoundary-after_ascii}
 use Rattle.std.proofs.lemmas.Bool.{eqb-true, cases_lt}
 use Rattle.std.specs.Cmp.Lexicographic.{bytes_decides}
 use Rattle.jl_logic.specs.Order.{is_text}
 use Rattle.jl_names.specs.Descriptors.{brackets}
 use Rattle.jl_vtypes.specs.Asking.{Done}
-use Rattle.jl_vtypes.specs.Assignability.{Spelled, Primitive, Named, ArrayOf, spelled, but_last, name_in, is_array, is_above_arrays, type_goes}
+use Rattle.jl_vtypes.specs.Assignability.{Spelled, Primitive, Named, ArrayOf, spelled, before_semicolon, name_in, named_or, is_array, is_above_arrays, type_goes}
 
 -- ---- what a first byte says
 
@@ -16,13 +19,9 @@ spelled_array : (b : ℕ) (bs : List ℕ) → (b == 91) ≡ true → spelled (b 
 unfolding spelled
 spelled_array b bs e = rw e refl
 
-spelled_named : (b : ℕ) (bs : List ℕ) → (b == 76) ≡ true → spelled (b ∷ bs) ≡ Named (but_last bs)
+spelled_other : (b : ℕ) (bs : List ℕ) → (b == 91) ≡ false → spelled (b ∷ bs) ≡ named_or (name_in (b ∷ bs)) (b ∷ bs)
 unfolding spelled
-spelled_named b bs e = let is : b ≡ 76 = eqb-true b 76 e in rw is refl
-
-spelled_other : (b : ℕ) (bs : List ℕ) → (b == 91) ≡ false → (b == 76) ≡ false → spelled (b ∷ bs) ≡ Primitive (b ∷ bs)
-unfolding spelled
-spelled_other b bs e f = rw (e, f) refl
+spelled_other b bs e = rw e refl
 
 -- ---- common dimensions
 
@@ -95,16 +94,13 @@ data Begins (s : List ℕ) : Type 0 where
 begun_array : (b : ℕ) (bs : List ℕ) → (b == 91) ≡ true → Begins (b ∷ bs)
 begun_array b bs e = let is : b ≡ 91 = eqb-true b 91 e in array e (rw is refl) (spelled bs) (spelled_array b bs e)
 
-begun_class : (b : ℕ) (bs : List ℕ) → (b == 76) ≡ true → Begins (b ∷ bs)
-begun_class b bs e = let is : b ≡ 76 = eqb-true b 76 e in class (rw is refl) (but_last bs) (rw e refl) (spelled_named b bs e)
-
-begun_other : (b : ℕ) (bs : List ℕ) (is_class : Bool) → (b == 91) ≡ false → (b == 76) ≡ is_class → Begins (b ∷ bs)
-begun_other b bs true e f = begun_class b bs f
-begun_other b bs false e f = other e (rw f refl) (spelled_other b bs e f)
+begun_other : (b : ℕ) (bs : List ℕ) (found : Option (List ℕ)) → (b == 91) ≡ false → name_in (b ∷ bs) ≡ found → Begins (b ∷ bs)
+begun_other b bs (Some name) e f = class e name f (spelled_other b bs e ∙ ap (λ o. named_or o (b ∷ bs)) f)
+begun_other b bs None e f = other e f (spelled_other b bs e ∙ ap (λ o. named_or o (b ∷ bs)) f)
 
 begun : (b : ℕ) (bs : List ℕ) (is_array : Bool) → (b == 91) ≡ is_array → Begins (b ∷ bs)
 begun b bs true e = begun_array b bs e
-begun b bs false e = begun_other b bs (b == 76) e refl
+begun b bs false e = begun_other b bs (name_in (b ∷ bs)) e refl
 
 begins_with : (s : List ℕ) → Begins s
 unfolding spelled
@@ -170,14 +166,71 @@ to_itself from to e h = elim (begins_with to) [
 
 -- ---- without common dimensions
 
-pub rest_of : (k : ℕ) (s : List ℕ) → take (length s - k) (drop k s) ≡ drop k s
-rest_of k s = take_all (length s - k) (drop k s) (omega (arith, length-drop k s))
-
 -- what is behind common dimensions goes as the whole
-pub as_whole : (k : ℕ) (from to : List ℕ) → k ≡ min (brackets from) (brackets to)
-    → type_goes (spelled (take (length from - k) (drop k from))) (spelled (take (length to - k) (drop k to))) ≡ type_goes (spelled from) (spelled to)
-as_whole k from to e = rw (rest_of k from, rest_of k to) (behind_both k from to (omega arith) (omega arith))
+pub as_whole : (k : ℕ) (from to : List ℕ) → k ≡ min (brackets from) (brackets to) → type_goes (spelled (drop k from)) (spelled (drop k to)) ≡ type_goes (spelled from) (spelled to)
+as_whole k from to e = behind_both k from to (omega arith) (omega arith)
 
-pub not_both_left : (k : ℕ) (from to : List ℕ) → k ≡ min (brackets from) (brackets to)
-    → (is_array (take (length from - k) (drop k from)) && is_array (take (length to - k) (drop k to))) ≡ false
-not_both_left k from to e = rw (rest_of k from, rest_of k to) (not_both k from to e)
+-- ---- the names of classes
+
+ends_later : (b c : ℕ) (bs name : List ℕ) → before_semicolon (c ∷ bs) ≡ Some name → before_semicolon (b ∷ c ∷ bs) ≡ Some (b ∷ name)
+unfolding before_semicolon
+ends_later b c bs name e = ap (option_map (λ name. b ∷ name)) e
+
+-- a text that ends in a semicolon
+semicolon_at_end : (name : List ℕ) → before_semicolon (name ++ 59 ∷ []) ≡ Some name
+unfolding before_semicolon
+semicolon_at_end [] = refl
+semicolon_at_end (b ∷ []) = refl
+semicolon_at_end (b ∷ c ∷ bs) = ends_later b c (bs ++ 59 ∷ []) (c ∷ bs) (semicolon_at_end (c ∷ bs))
+
+-- a text that ends in none
+no_semicolon : (text : List ℕ) → ((front : List ℕ) → text ≡ front ++ 59 ∷ [] → ⊥) → before_semicolon text ≡ None
+unfolding before_semicolon
+no_semicolon [] none = refl
+no_semicolon (b ∷ []) none = by_last (b == 59) refl
+  where
+    by_last : (is : Bool) → (b == 59) ≡ is → before_semicolon (b ∷ []) ≡ None
+    by_last true e = absurd (none [] (ap (λ x. x ∷ []) (eqb-true b 59 e)))
+    by_last false e = rw e refl
+no_semicolon (b ∷ c ∷ bs) none = ap (option_map (λ name. b ∷ name)) (no_semicolon (c ∷ bs) (λ front e. none (b ∷ front) (ap (λ rest. b ∷ rest) e)))
+
+-- a class between L and a semicolon
+name_between : (desc rest name : List ℕ) → desc ≡ 76 ∷ rest → rest ≡ name ++ 59 ∷ [] → Some name ≡ name_in desc
+name_between desc rest name e f = rw (e, f) (sym (semicolon_at_end name))
+
+-- what is left of a text that begins with L, where it ends in a semicolon
+pub name_left : (desc rest : List ℕ) (found : Option (Bor (List ℕ))) → desc ≡ 76 ∷ rest
+    → MatchOption found ((front : List ℕ) → rest ≢ front ++ 59 ∷ []) (λ name. rest ≡ name.now ++ 59 ∷ []) → option_copied found ≡ name_in desc
+name_left desc rest None e none = rw e (sym (no_semicolon rest none))
+name_left desc rest (Some name) e f = name_between desc rest name.now e f
+
+pub name_without_start : (desc : List ℕ) → ((rest : List ℕ) → desc ≡ 76 ∷ rest → ⊥) → None ≡ name_in desc
+name_without_start [] none = refl
+name_without_start (b ∷ bs) none = by_first (b == 76) refl
+  where
+    by_first : (is : Bool) → (b == 76) ≡ is → None ≡ name_in (b ∷ bs)
+    by_first true e = absurd (none bs (ap (λ x. x ∷ bs) (eqb-true b 76 e)))
+    by_first false e = rw e refl
+
+-- ---- where a descriptor may be cut
+
+bracket_at : (k : ℕ) (s : List ℕ) → suc k ≤ brackets s → get_or s k 0 ≡ 91
+bracket_at k [] h = absurd (omega (arith, none_brackets))
+bracket_at zero (b ∷ bs) h = eqb-true b 91 (begins zero b bs (b == 91) refl h)
+bracket_at (suc k) (b ∷ bs) h =
+    let e : (b == 91) ≡ true = begins (suc k) b bs (b == 91) refl (omega arith) in
+    bracket_at k bs (omega (arith, more_brackets b bs e))
+
+brackets_within : (s : List ℕ) → brackets s ≤ length s
+brackets_within [] = omega (arith, none_brackets)
+brackets_within (b ∷ bs) = by_first (b == 91) refl (brackets_within bs)
+  where
+    by_first : (is : Bool) → (b == 91) ≡ is → brackets bs ≤ length bs → brackets (b ∷ bs) ≤ length (b ∷ bs)
+    by_first true e h = omega (arith, more_brackets b bs e)
+    by_first false e h = omega (arith, no_brackets b bs e)
+
+-- behind brackets
+pub cut_at : (k : ℕ) (s : List ℕ) → IsUtf8 s → k ≤ brackets s → IsCharBoundary s k
+cut_at zero s u h = IsCharBoundary-start s u
+cut_at (suc k) s u h =
+    rw add-one at (IsCharBoundary-after_ascii s k u (omega (arith, brackets_within s)) (omega (arith, bracket_at k s (omega arith))))

@@ -14,8 +14,8 @@ abbrev pub and_then : {X Y : Type 0} → Asks X → (X → Asks Y) → Asks Y
 and_then (Done x) next = next x
 and_then (Ask q each) next = Ask q (λ answer. and_then (each answer) next)
 
--- A definition asks exactly these questions, gets these answers, and comes to this result. A question without an answer is the last one,
--- and the result is the fault that it makes.
+-- A definition asks exactly these questions, gets these answers, and comes to this result. Each question has an entry. One that ended in an
+-- error is the last, and the result is the fault made of it.
 abbrev pub Follows : {X F : Type 0} → (Question → HierarchyEnd → F) → Asks X → List Asked → Result X F → Type 0
 Follows fault (Done x) [] result = result ≡ Ok x
 Follows fault (Done x) (a ∷ later) result = ⊥

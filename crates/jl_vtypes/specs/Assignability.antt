@@ -1,5 +1,5 @@
 -- Which items are assignable to which (JVMS 4.10.1.2), as a definition that asks.
-use Rattle.std.specs.Prelude.{ℕ, ◌-◌, List, [], ◌∷◌, length, take, Option, None, Some, Bool, true, false, ◌||◌, ◌==◌, codes, if◌then◌else◌}
+use Rattle.std.specs.Prelude.{ℕ, List, [], ◌∷◌, Option, None, Some, option_map, Bool, true, false, ◌||◌, ◌==◌, codes, if◌then◌else◌}
 use Rattle.jl_logic.specs.Order.{is_text}
 use Rattle.jl_vtypes.specs.declared.item.Item.{Item}
 use Rattle.jl_vtypes.specs.declared.item.Item.TheVariants as items
@@ -14,24 +14,31 @@ pub data Spelled : Type 0 where
   Named : List ℕ → Spelled
   ArrayOf : Spelled → Spelled
 
--- a text without its last byte
-abbrev pub but_last : List ℕ → List ℕ
-but_last text = take (length text - 1) text
+-- a text that ends in ; without it
+unfoldable pub before_semicolon : List ℕ → Option (List ℕ)
+before_semicolon [] = None
+before_semicolon (b ∷ []) = if b == 59 then Some [] else None
+before_semicolon (b ∷ c ∷ bs) = option_map (λ name. b ∷ name) (before_semicolon (c ∷ bs))
 
--- the type that a descriptor spells: [ before that of elements, or a name between L and ;
+-- the name in the descriptor of a class, between L and ;
+abbrev pub name_in : List ℕ → Option (List ℕ)
+name_in [] = None
+name_in (b ∷ bs) = if b == 76 then before_semicolon bs else None
+
+-- a class by its name, or what spells no class
+abbrev pub named_or : Option (List ℕ) → List ℕ → Spelled
+named_or (Some name) text = Named name
+named_or None text = Primitive text
+
+-- the type that a descriptor spells
 unfoldable pub spelled : List ℕ → Spelled
 spelled [] = Primitive []
-spelled (b ∷ bs) = if b == 91 then ArrayOf (spelled bs) else if b == 76 then Named (but_last bs) else Primitive (b ∷ bs)
+spelled (b ∷ bs) = if b == 91 then ArrayOf (spelled bs) else named_or (name_in (b ∷ bs)) (b ∷ bs)
 
 -- the descriptor of an array
 abbrev pub is_array : List ℕ → Bool
 is_array [] = false
 is_array (b ∷ bs) = b == 91
-
--- the name in the descriptor of a class
-abbrev pub name_in : List ℕ → Option (List ℕ)
-name_in [] = None
-name_in (b ∷ bs) = if b == 76 then Some (but_last bs) else None
 
 -- ---- items
 
@@ -42,10 +49,14 @@ is_object name = is_text name (codes "java/lang/Object")
 abbrev pub is_above_arrays : List ℕ → Bool
 is_above_arrays name = is_object name || (is_text name (codes "java/lang/Cloneable") || is_text name (codes "java/io/Serializable"))
 
+-- whether the one class is the other or a subclass of it
+abbrev pub subclass_asks : List ℕ → List ℕ → Asks Bool
+subclass_asks from to = Ask (questions.IsSubclass from to) Done
+
 -- an interface is as good as Object for every class, and another class takes its subclasses
 abbrev pub unless_interface : List ℕ → List ℕ → Bool → Asks Bool
 unless_interface from to true = Done true
-unless_interface from to false = Ask (questions.IsSubclass from to) Done
+unless_interface from to false = subclass_asks from to
 
 -- the target is asked for
 abbrev pub class_asks : List ℕ → List ℕ → Asks Bool

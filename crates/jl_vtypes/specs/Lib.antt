@@ -1,3 +1,4 @@
 pub mod Asking
 pub mod Assignability
 pub mod Listed
+pub mod Unanswered

@@ -21,7 +21,7 @@ pub enum Item {
     Uninit(u32),
     /// An object of the class or interface with this name in internal form.
     Class(Name),
-    /// An array, by its descriptor.
+    /// An array, by its descriptor, which begins with `[`. Nothing is said of other texts.
     Array(Name),
 }
 

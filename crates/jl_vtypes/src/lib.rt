@@ -8,9 +8,9 @@ mod item;
 mod listed;
 mod question;
 
-pub use assigning::assignable;
+pub use assigning::{ask_subclass, assignable, is_going};
 pub use ends::HierarchyEnd;
 pub use hierarchy::Hierarchy;
 pub use item::Item;
 pub use listed::{ListedClass, ListedClasses, MissingClass};
-pub use question::{Asked, Question};
+pub use question::{Asked, Question, Unanswered};

@@ -43,7 +43,7 @@ pub struct ListedClasses {
 impl ListedClasses {
     /// A hierarchy of these classes. The names in `missing` do not load, and are looked at first. The questions with
     /// the numbers in `fails` fail, counted from 1. A name that is in no list is missing with a NoClassDefFoundError
-    /// without a message.
+    /// without a message. A missing name may still stand among superclasses.
     pub fn new(
         alloc: Global,
         classes: Items<ListedClass>,

@@ -18,3 +18,10 @@ pub struct Asked {
     pub question: Question,
     pub answer: Result<bool, HierarchyEnd>,
 }
+
+/// A question that has no answer: the first name in it, and why.
+#[derive(Debug, Drop)]
+pub struct Unanswered<'a> {
+    pub name: &'a str,
+    pub end: HierarchyEnd,
+}

@@ -1,0 +1,13 @@
+pub mod Checked
+pub mod Checks
+pub mod Comes
+pub mod Cut
+pub mod Declaring
+pub mod Families
+pub mod Frames
+pub mod Judging
+pub mod Made
+pub mod Moves
+pub mod Rows
+pub mod Rules
+pub mod Tried
