@@ -15,16 +15,16 @@ use Rattle.jl_verify.specs.Rules.{rule}
 
 -- ---- lists of questions
 
-leads_on : {S : Type 0} (step : S → Asked → S → Type 0) (one two : List Asked) (old mid new : S) → Leads step old one mid → Leads step mid two new → Leads step old (one ++ two) new
+pub leads_on : {S : Type 0} (step : S → Asked → S → Type 0) (one two : List Asked) (old mid new : S) → Leads step old one mid → Leads step mid two new → Leads step old (one ++ two) new
 leads_on step [] two old mid new p q = subst (λ s. Leads step s two new) (sym p) q
 leads_on step (a ∷ later) two old mid new p q = (p.0, p.1, leads_on step later two p.0 mid new p.2 q)
 
 -- what follows a question with this answer
-abbrev AfterAnswer : {X F : Type 0} → (Question → HierarchyEnd → F) → Question → (Bool → Asks X) → List Asked → Result X F → Result Bool HierarchyEnd → Type 0
+abbrev pub AfterAnswer : {X F : Type 0} → (Question → HierarchyEnd → F) → Question → (Bool → Asks X) → List Asked → Result X F → Result Bool HierarchyEnd → Type 0
 AfterAnswer fault q each later result (Ok answer) = Follows fault (each answer) later result
 AfterAnswer fault q each later result (Err end) = (later ≡ []) × (result ≡ Err (fault q end))
 
-not_ok : {X F : Type 0} (x : X) (f : F) → Ok x ≡ Err f → ⊥
+pub not_ok : {X F : Type 0} (x : X) (f : F) → Ok x ≡ Err f → ⊥
 not_ok x f e = cc
 
 module _ {X Y F : Type 0} (fault : Question → HierarchyEnd → F) (next : X → Asks Y) where

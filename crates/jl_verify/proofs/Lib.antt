@@ -6,6 +6,7 @@ pub mod GroupLists
 pub mod ItemLists
 pub mod Judgements
 pub mod MadeLists
+pub mod Passing
 pub mod Placings
 pub mod Prefixes
 mod Rows

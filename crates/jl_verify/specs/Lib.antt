@@ -11,3 +11,4 @@ pub mod Moves
 pub mod Rows
 pub mod Rules
 pub mod Tried
+pub mod WellTyped

@@ -10,6 +10,7 @@ ghost use Rattle.jl_code.specs.Sound.{IsSound, starts};
 ghost use Rattle.jl_verify.specs.Checks.{Verifies, Typed, AnswersOrNoMemory, judged_code, judged_stated, stated_of};
 ghost use Rattle.jl_verify.specs.Declaring as words;
 ghost use Rattle.jl_verify.specs.Judging.{IsDecoded, IsStated, IsDeclared};
+ghost use Rattle.jl_verify.specs.WellTyped.{IsWellTypedIfAccepted};
 
 use crate::context::Context;
 use crate::declared_frame::DeclaredFrame;
@@ -31,6 +32,20 @@ use std::alloc::Global;
 /// first of the rules that fail there. A question to the hierarchy without an answer ends the check: `ClassMissing` with
 /// the first name in the question, `ReadFault`, or `NoMemory`.
 pub fn verify<H: Hierarchy>(
+    alloc: Global,
+    h: &mut H,
+    class: &ClassDecl,
+    method: usize,
+) -> Result<(), VerifyFault>
+    requires { method < length class.now.methods }
+    ensures exact { Verifies H.step class.now (slice_get class.now.methods method) h.old result h.new }
+    // Where a method that is checked is accepted, no rule fails at any of its instructions.
+    ensures typed { IsWellTypedIfAccepted H.step class.now (slice_get class.now.methods method) h.old result h.new }
+{
+    verify_method(alloc, h, class, method)
+}
+
+fn verify_method<H: Hierarchy>(
     alloc: Global,
     h: &mut H,
     class: &ClassDecl,
