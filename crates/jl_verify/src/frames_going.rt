@@ -36,7 +36,7 @@ fn goes_from<H: Hierarchy>(
 }
 
 /// Whether the items of one list go to those of another, one by one from the first. A missing one is Top.
-fn items_go<H: Hierarchy>(
+pub fn items_go<H: Hierarchy>(
     alloc: Global,
     h: &mut H,
     from: &[Item],
@@ -106,7 +106,7 @@ fn slots_go<H: Hierarchy>(
 }
 
 /// Whether the locals of one frame go to those of another.
-fn locals_go<H: Hierarchy>(
+pub fn locals_go<H: Hierarchy>(
     alloc: Global,
     h: &mut H,
     from: &TypeFrame,
