@@ -9,6 +9,7 @@ pub mod MadeLists
 pub mod Passing
 pub mod Placings
 pub mod Prefixes
+pub mod Rising
 mod Rows
 pub mod Slots
 pub mod Stacks

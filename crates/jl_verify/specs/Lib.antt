@@ -8,6 +8,7 @@ pub mod Frames
 pub mod Judging
 pub mod Made
 pub mod Moves
+pub mod Rising
 pub mod Rows
 pub mod Rules
 pub mod Tried

@@ -122,9 +122,9 @@ pub fn declared_at<'a>(c: &Context<'a>, place: u32) -> Option<&'a TypeFrame>
     ensures { option_copied result ≡ rules.declared_at c.now place }
 {
     let declared = c.declared;
-    match declared.iter().find(|one| one.offset == place) {
-        Some(one) => Some(&one.frame),
-        None => None,
+    match declared.binary_search_by(|one| one.offset.cmp(&place)) {
+        Ok(at) => Some(&declared[at].frame),
+        Err(_) => None,
     }
 }
 

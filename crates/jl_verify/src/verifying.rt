@@ -7,6 +7,7 @@ ghost use Rattle.jl_code.specs.Decoding.{code_of};
 ghost use Rattle.jl_code.specs.Places.{stands};
 ghost use Rattle.jl_code.specs.PlaceTables.{IsIndexOf, index_in};
 ghost use Rattle.jl_code.specs.Sound.{IsSound, starts};
+ghost use Rattle.jl_frames.specs.Fitting.{OffsetsRise};
 ghost use Rattle.jl_verify.specs.Checks.{Verifies, Typed, AnswersOrNoMemory, judged_code, judged_stated, stated_of};
 ghost use Rattle.jl_verify.specs.Declaring as words;
 ghost use Rattle.jl_verify.specs.Judging.{IsDecoded, IsStated, IsDeclared};
@@ -105,7 +106,8 @@ fn decoded(
 
 /// The frames that the stack map of a code states, none where it has none.
 fn stated(alloc: Global, code: &CodeBytes) -> Result<Vec<Frame>, VerifyFault>
-    ensures { IsStated result (stated_of code.now) }
+    ensures exact { IsStated result (stated_of code.now) }
+    ensures rise { IfOk result (λ frames. OffsetsRise frames.items) }
 {
     match &code.frames {
         Some(bytes) => match read_frames(alloc, bytes.as_slice()) {
@@ -162,7 +164,8 @@ fn verify_frames<H: Hierarchy>(
     code: (&CodeBytes, &[Instr]),
     stated: &[Frame],
 ) -> Result<(), VerifyFault>
-    requires { AllByRecursion (λ (i : Instr). i.at < length code.0.now.code) code.1.now }
+    requires within { AllByRecursion (λ (i : Instr). i.at < length code.0.now.code) code.1.now }
+    requires rise { OffsetsRise stated.now }
     ensures { AnswersOrNoMemory H.step (judged_stated class.now method.now code.entry.0.now code.entry.1.now (Ok stated.now)) h.old result h.new }
 {
     let (code, instrs) = code;
