@@ -65,7 +65,7 @@ pub record DenialsName : Type 0 where
   pub changes : (f : State) (from to : ModuleId) (opens : Option (List ℕ)) (r : Rule)
       → (caller_verdict f from to opens ≡ Denied r) ↔ ((may_change f from to opens ≡ false) × (r ≡ rules.CallerNotAllowed))
 
--- Between two modules a class is granted exactly where the caller's module reads the other, the package is exported to it and the class is public.
+-- Between two modules a class is granted exactly where the class is public, its package is exported to the caller's module, and that reads the other.
 abbrev pub GrantsByThree : Type 0
 GrantsByThree = (f : State) (from to : Place) (public : Bool) → is_one_module from to ≡ false
     → (class_verdict f from to public ≡ Granted) ↔ ((reads f from.module to.module ≡ true) × (exported_to f to.module to.package from.module ≡ true) × (public ≡ true))
@@ -75,7 +75,7 @@ abbrev pub ReflectsByAnExport : Type 0
 ReflectsByAnExport = (f : State) (from to : Place) (public : Bool) (a : MemberAccess) → is_one_module from to ≡ false → a.same_class ≡ false
     → (reflect_verdict f from to public a ≡ Granted) ↔ ((exported_to f to.module to.package from.module ≡ true) × (public ≡ true) × (member_verdict (by_its_class a) ≡ Granted))
 
--- Between two modules deep reflection is granted exactly where the package is open to the caller's module, or exported to it with a public class that shows the member.
+-- Between two modules deep reflection is granted exactly where an opening of the package counts for the caller's module, or an export does and a public class shows the member.
 abbrev pub DeepByAnOpening : Type 0
 DeepByAnOpening = (f : State) (from to : Place) (public : Bool) (a : MemberAccess) → is_one_module from to ≡ false
     → (deep_verdict f from to public a ≡ Granted) ↔ ((open_to f to.module to.package from.module ≡ true) ⊎ ((exported_to f to.module to.package from.module ≡ true) × (public ≡ true) × (is_shown a ≡ true)))

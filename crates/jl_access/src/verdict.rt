@@ -37,7 +37,7 @@ pub struct MemberAccess {
     pub same_package: bool,
     /// The caller is a subclass of the class that declares the member.
     pub subclass: bool,
-    /// The class named in the reference is the caller, its subclass or its superclass.
+    /// Of the caller and the class that the reference names, one is a subclass of the other, or they are one class.
     pub named_related: bool,
 }
 

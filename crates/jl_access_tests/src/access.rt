@@ -76,7 +76,7 @@ const OPENED_TO_OTHERS: Denied = [
 const EXPORTED: Denied = [None, NOT_PUBLIC, None, NO_OPENING, None, NO_CALLER];
 /// The package is exported to the caller's module and opened to another.
 const EXPORTED_OPENED_TO_OTHERS: Denied = [None, NOT_PUBLIC, None, OPEN_ELSEWHERE, None, NO_CALLER];
-/// The package is open to the caller's module.
+/// Nothing but what reflection needs: the caller's module is one to which the package is opened.
 const OPENED: Denied = [None, NOT_PUBLIC, None, None, None, None];
 
 /// Whether module 2 is open, two statements that it makes, and what is denied.

@@ -122,7 +122,7 @@ impl Frame {
         self.locals[at] = v;
     }
 
-    /// The value so many below the top of the stack. None where the stack is not so deep.
+    /// The value so many below the top of the stack. None at a place below the stack's last.
     pub fn peek(&self, down: usize) -> Option<Value>
         ensures { result ≡ value_at self.now down }
     {

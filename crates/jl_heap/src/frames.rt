@@ -178,7 +178,7 @@ impl Frames {
         }
     }
 
-    /// The value so many below the top of the top frame's stack. None where the stack is not so deep.
+    /// The value so many below the top of the top frame's stack. None at a place below the stack's last.
     pub fn peek(&self, down: usize) -> Option<Value>
         requires { IsSome (top_of self.now) }
         ensures value { result ≡ option_and_then (λ f. value_at f down) (top_of self.now) }

@@ -63,8 +63,8 @@ impl Statics {
         }
     }
 
-    /// Enters a class that is not entered yet, with the kinds of its static fields. None may use it. Without
-    /// memory nothing has changed.
+    /// Enters a class, not one that was entered before: of each static field the kind is given, and no task may use
+    /// the class so far. Without memory nothing has changed.
     #[tactic(auto, using(crate::proofs::Placing::places_entered, crate::proofs::Placing::places_as_before))]
     pub fn admit(&mut self, class: ClassId, kinds: Items<Kind>) -> Result<(), StaticsEnd>
         requires { entry_of self.old class ≡ None }

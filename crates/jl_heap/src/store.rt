@@ -22,7 +22,7 @@ pub struct Store {
 
 impl Store {
     /// A store with two objects of these shapes, numbers 1 and 2: the OutOfMemoryError of a full heap, and
-    /// what `System.out` is. It has no frame, no statics and nothing kept; its task is 1.
+    /// what `System.out` is. Frames, statics and kept objects are empty; its task is 1.
     pub fn new(alloc: Global, no_heap: Shape, out: Shape) -> Result<Store, StoreEnd>
         requires no_heap { IsObject no_heap }
         requires out { IsObject out }

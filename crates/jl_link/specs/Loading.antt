@@ -186,6 +186,6 @@ load files at s l name = load_by most_waiting files at [] s l name
 
 -- ---- whether there is a file
 
--- the loader leads the name to a module other than java.base that has the file, however long it is
+-- the module that the loader leads the name to is not java.base and has the file, however long it is
 abbrev pub has_file : List File → State → LoaderId → List ℕ → Bool
 has_file files s l name = option_map_or (λ m. not (is_base s m) && is_some (file_at files (path_of (files_of_module s m) name))) (lead s.layers.loaders l name) false

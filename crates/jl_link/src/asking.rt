@@ -17,8 +17,8 @@ use jl_tree::{Tree, TreeFault};
 use std::alloc::Global;
 
 impl World {
-    /// Whether a loader leads the name of a class to a module other than `java.base` that has the file of the class,
-    /// also one that is too long. Nothing is loaded. `ReadFault` comes only where the count of the tree's faults rose.
+    /// Whether the module that a loader leads the name of a class to has the file of the class, and is not
+    /// `java.base`; a file that is too long counts. Nothing is loaded. `ReadFault` comes only where the count of the tree's faults rose.
     pub fn has_file<T: Tree>(
         &mut self,
         tree: &mut T,

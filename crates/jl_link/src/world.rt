@@ -52,7 +52,7 @@ impl World {
         &self.report
     }
 
-    /// How many classes are defined. They are numbered from 1, in the order in which they were defined.
+    /// How many classes are defined. The first that was defined has number 1, the next 2, and so on.
     pub fn classes(&self) -> u32
         ensures { result ≡ length self.now.classes }
     {

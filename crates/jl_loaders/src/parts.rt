@@ -31,8 +31,8 @@ impl Model for LoaderParts {
 }
 
 impl LoaderParts {
-    /// The parts of a loader. `own` has the packages of its modules, and `seen` those that a module which one of them
-    /// reads exports to it. Without memory the lists are dropped.
+    /// The parts of a loader. `own` has the packages of its modules, and `seen` what these may import: packages
+    /// exported to a module of the loader by one that it reads. Without memory the lists are dropped.
     pub fn new(
         alloc: Global,
         own: Items<(Name, ModuleId)>,

@@ -11,7 +11,7 @@ use std::marker::Model;
 pub enum BaseType {
     /// A primitive type, by its letter.
     Prim(u8),
-    /// A class: the place of its name's first byte in the text, and the place after its last.
+    /// A class, by where its name begins in the text and where it ends: the last byte stands before the second place.
     Class(usize, usize),
 }
 

@@ -36,7 +36,7 @@ abbrev pub unless_null : Option (List ℕ) → (List ℕ → Result Plain Native
 unless_null None answer = is_thrown_alone NullPointerException
 unless_null (Some units) answer = answer units
 
--- a number of units, a place or a difference of lengths as an int, which wraps (JLS 4.2.2)
+-- the int that a whole number comes to, by wrapping (JLS 4.2.2): how long a text is, where a unit stands, how far lengths differ
 abbrev pub wrapped : ℤ → ℤ
 wrapped n = int_wrap w32 n
 
