@@ -8,6 +8,8 @@ mod finder;
 #[cfg(test)]
 mod launch;
 #[cfg(test)]
+mod parents;
+#[cfg(test)]
 mod tree;
 #[cfg(test)]
 mod words;
