@@ -77,9 +77,9 @@ fn judged(
 /// instruction that leads to a place where none stands, before the fault of the first instruction that is not
 /// right in itself. Where instructions stand is decided by opcodes and lengths alone. `BadRange` comes behind
 /// these, for the first handler that is wrong: it covers nothing, or no instruction stands at its start, its target
-/// or its end (which may be that of the code), or its catch type is neither 0 nor a class. A method is a
-/// stub where its own descriptor has a parameter or result `F` or `D`, or else by its first instruction that
-/// makes it one. A text that is no method's descriptor has neither.
+/// or its end (which may be that of the code), or its catch type is neither 0 nor a class. What makes a
+/// stub of a method is `F` or `D` among its own parameters or as its result, or else its first instruction that
+/// does. A text that is no method's descriptor has neither.
 pub fn decode(
     alloc: Global,
     pool: &Pool,
