@@ -10,4 +10,5 @@ pub mod NestLaws
 pub mod NestLoops
 pub mod PlaceLaws
 pub mod Rows
+pub mod TableLaws
 pub mod WithinContents

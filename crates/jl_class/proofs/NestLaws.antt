@@ -192,7 +192,7 @@ permits_slot flags pool = record { here = permits_here pool; other = permits_oth
 -- ---- together
 
 -- a host or members, not both
-abbrev Apart : List ClassAttribute → Type 0
+abbrev pub Apart : List ClassAttribute → Type 0
 Apart vs = is_some (first_that host_in vs) && is_some (first_that members_in vs) ≡ false
 
 pushed : {W : Type 0} (pick : ClassAttribute → Option W) (done : List ClassAttribute) (v : ClassAttribute) (o : Option W) → first_that pick done ≡ o → pick v ≡ None → first_that pick (done ++ v ∷ []) ≡ o
@@ -223,21 +223,46 @@ host_out_of_members : (v : ClassAttribute) → keeps_out forms.Members v ≡ fal
 host_out_of_members (attributes.Host name) e = absurd cc
 host_out_of_members _ e = refl
 
-apart_step : (flags : ℕ) (pool : List Entry) (done : List ClassAttribute) (k : AttrForm) (c : List ℕ) (v : ClassAttribute) → may_follow flags done k ≡ true → ClassMeans pool k c v → Apart done → Apart (done ++ v ∷ [])
-apart_step flags pool done forms.Host c (attributes.Host name) may m a =
+-- what was read of a form is of that form
+abbrev pub IsOf : AttrForm → ClassAttribute → Type 0
+IsOf forms.Host (attributes.Host name) = ⊤
+IsOf forms.Members (attributes.Members names) = ⊤
+IsOf forms.Components attributes.Record = ⊤
+IsOf forms.Permits (attributes.Permits names) = ⊤
+IsOf _ _ = ⊥
+
+means_of : (pool : List Entry) (k : AttrForm) (c : List ℕ) (v : ClassAttribute) → ClassMeans pool k c v → IsOf k v
+means_of pool forms.Host c (attributes.Host name) m = tt
+means_of pool forms.Members c (attributes.Members names) m = tt
+means_of pool forms.Components c attributes.Record m = tt
+means_of pool forms.Permits c (attributes.Permits names) m = tt
+means_of pool _ c _ m = absurd m
+
+pub meaning_of : (pool : List Entry) (k : AttrForm) (place : ℕ) (bytes : List ℕ) (at : ℕ) (v : ClassAttribute) → meaning_at pool k place bytes at ≡ Ok v → IsOf k v
+unfolding meaning_at
+meaning_of pool forms.Host place bytes at v e = let s = bind_ok (host_at pool place bytes at) _ v e in subst (IsOf forms.Host) (ok_is (attributes.Host s.0) v s.2) tt
+meaning_of pool forms.Members place bytes at v e = let s = bind_ok (classes_at pool place bytes at) _ v e in subst (IsOf forms.Members) (ok_is (attributes.Members s.0) v s.2) tt
+meaning_of pool forms.Components place bytes at v e = let s = bind_ok (record_at pool place bytes at) _ v e in subst (IsOf forms.Components) (ok_is attributes.Record v s.2) tt
+meaning_of pool forms.Permits place bytes at v e = let s = bind_ok (classes_at pool place bytes at) _ v e in subst (IsOf forms.Permits) (ok_is (attributes.Permits s.0) v s.2) tt
+meaning_of pool forms.ConstantIndex place bytes at v e = absurd cc
+meaning_of pool forms.CodeBody place bytes at v e = absurd cc
+meaning_of pool forms.Frames place bytes at v e = absurd cc
+
+pub apart_step : (flags : ℕ) (done : List ClassAttribute) (k : AttrForm) (v : ClassAttribute) → may_follow flags done k ≡ true → IsOf k v → Apart done → Apart (done ++ v ∷ [])
+apart_step flags done forms.Host (attributes.Host name) may m a =
     no_members (done ++ attributes.Host name ∷ []) (pushed members_in done (attributes.Host name) None (none_held forms.Host members_in members_out_of_host done (not_any flags done forms.Host may)) refl)
-apart_step flags pool done forms.Members c (attributes.Members names) may m a =
+apart_step flags done forms.Members (attributes.Members names) may m a =
     no_host (done ++ attributes.Members names ∷ []) (pushed host_in done (attributes.Members names) None (none_held forms.Members host_in host_out_of_members done (not_any flags done forms.Members may)) refl)
-apart_step flags pool done forms.Components c attributes.Record may m a = still_apart done (done ++ attributes.Record ∷ []) (pushed host_in done attributes.Record _ refl refl) (pushed members_in done attributes.Record _ refl refl) a
-apart_step flags pool done forms.Permits c (attributes.Permits names) may m a = still_apart done (done ++ attributes.Permits names ∷ []) (pushed host_in done (attributes.Permits names) _ refl refl) (pushed members_in done (attributes.Permits names) _ refl refl) a
-apart_step flags pool done _ c _ may m a = absurd m
+apart_step flags done forms.Components attributes.Record may m a = still_apart done (done ++ attributes.Record ∷ []) (pushed host_in done attributes.Record _ refl refl) (pushed members_in done attributes.Record _ refl refl) a
+apart_step flags done forms.Permits (attributes.Permits names) may m a = still_apart done (done ++ attributes.Permits names ∷ []) (pushed host_in done (attributes.Permits names) _ refl refl) (pushed members_in done (attributes.Permits names) _ refl refl) a
+apart_step flags done _ _ may m a = absurd m
 
 all_apart : (flags : ℕ) (pool : List Entry) (ps : List (AttrForm × List ℕ)) (done vs : List ClassAttribute) → AreRead (ClassMeans pool) (may_follow flags) done ps vs → Apart done → Apart (done ++ vs)
 all_apart flags pool [] done [] read a = subst Apart (sym (append-nil done)) a
 all_apart flags pool [] done (v ∷ vs) read a = absurd read
 all_apart flags pool (p ∷ ps) done [] read a = absurd read
 all_apart flags pool (p ∷ ps) done (v ∷ vs) read a =
-    subst Apart (append_assoc done (v ∷ []) vs) (all_apart flags pool ps (done ++ v ∷ []) vs read.2 (apart_step flags pool done p.0 p.1 v read.0 read.1 a))
+    subst Apart (append_assoc done (v ∷ []) vs) (all_apart flags pool ps (done ++ v ∷ []) vs read.2 (apart_step flags done p.0 v read.0 (means_of pool p.0 p.1 v read.1) a))
 
 -- nobody is permitted to extend a final class
 abbrev Open : Bool → List ClassAttribute → Type 0

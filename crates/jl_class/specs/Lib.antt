@@ -4,3 +4,4 @@ pub mod Longer
 pub mod Meaning
 pub mod Reading
 pub mod Spelling
+pub mod Tables

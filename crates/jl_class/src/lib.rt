@@ -24,7 +24,7 @@ pub use flags::{
     are_class_flags, are_field_flags, are_method_flags, has_code, is_abstract, is_final,
     is_interface, is_native, is_private, is_protected, is_public, is_static,
 };
-pub use law::reads_longer;
+pub use law::{reads_longer, tables_are_read, tables_stand};
 pub use member::{CodeBytes, FieldDecl, MemberKey, MethodDecl};
 pub use names::names_method;
 pub use nests::Nests;
