@@ -1,21 +1,29 @@
 -- Lemmas.
-pub mod Above
-pub mod Begun
-pub mod Defined
-pub mod Followed
-pub mod Found
-pub mod GoingOn
-pub mod Granted
-pub mod Kept
-pub mod Layered
-pub mod Interfaces
-pub mod Leading
-pub mod Leaving
-pub mod Loads
-pub mod Modules
-pub mod Packages
-pub mod Placed
-pub mod Places
-pub mod Soundness
-mod BegunRows
-mod Rows
+pub mod Choosing
+pub mod ConstraintRows
+pub mod Cuts
+pub mod Deciding
+pub mod FoundAgain
+pub mod GroupLeads
+pub mod Hosts
+pub mod HostsKept
+pub mod Imposed
+pub mod Joined
+pub mod Judging
+pub mod Lasting
+pub mod Looked
+pub mod Looking
+pub mod MemberRows
+pub mod Moved
+pub mod Naming
+pub mod Onwards
+pub mod Outcomes
+pub mod Reaching
+pub mod Resolved
+pub mod Searched
+pub mod Settling
+pub mod WorldStands
+pub mod Going
+pub mod Through
+mod NestRows
+mod ReferenceRows

@@ -1,10 +1,13 @@
 -- Definitions.
-pub mod Worlds
-pub mod Outcomes
-pub mod Loading
-pub mod Ends
-pub mod Whole
+pub mod Nests
+pub mod Members
+pub mod Searching
+pub mod Moving
+pub mod Joining
+pub mod Constraining
+pub mod Imposing
+pub mod References
+pub mod Standing
+pub mod Slots
+pub mod Selection
 pub mod Laws
-pub mod Beginning
-pub mod Above
-pub mod Steps

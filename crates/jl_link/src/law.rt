@@ -1,31 +1,14 @@
-//! Laws of what is loaded. There is nothing to run.
+//! Laws of what was decided. There is nothing to run.
 
-ghost use Rattle.jl_link.specs.Laws.{AccessStays, ClassesStay, LoadsStay, SoundStays};
+ghost use Rattle.jl_link.specs.Laws.{DecidedStays};
 
-/// Says that classes, their supertypes and the numbers of their members do not move, whatever is loaded or noted.
-pub fn classes_stay()
-    ensures { ClassesStay }
-{
-    jl_layer::layers_stay();
-}
-
-/// Says that loading adds classes and notes alone, keeps what is loaded sound, and answers the same class again in
-/// any later state.
-pub fn loads_stay()
-    ensures { LoadsStay }
-{
-    jl_layer::layers_stay();
-}
-
-/// Says that a class that another one accessed, it accesses in any later state.
-pub fn access_stays()
-    ensures { AccessStays }
+/// Says that what was decided of a reference stays, whatever is loaded, noted, imposed or added.
+pub fn decided_stays()
+    ensures { DecidedStays }
 {
     jl_access::grants_stay();
+    jl_layer::layers_stay();
+    jl_loads::classes_stay();
+    jl_loads::loads_stay();
+    jl_loads::sound_stays();
 }
-
-/// Says that what is loaded is sound from the start on, and stays so where a note is made, a class is defined or
-/// layers grow.
-pub fn sound_stays()
-    ensures { SoundStays }
-{}

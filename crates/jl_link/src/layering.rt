@@ -1,5 +1,5 @@
-//! What is kept, defined, imposed and added in the layers (`java.lang.ModuleLayer`, JVMS 5.3.4, `java.lang.Module`).
-//! What is loaded stays, and so does the report.
+//! What is kept, defined, imposed and added in the layers of a world (`java.lang.ModuleLayer`, JVMS 5.3.4,
+//! `java.lang.Module`). What is loaded and what was decided stays, and so does the report.
 
 ghost use Rattle.std.specs.Prelude.{◌≡◌, All, IfErr, IfOk, IsTrue, OnErr, OnOk};
 ghost use Rattle.std.specs.Str.{IsUtf8};
@@ -14,9 +14,9 @@ ghost use Rattle.jl_layer.specs.Defining.{next_layer, IsDefined, IsAsBefore};
 ghost use Rattle.jl_layer.specs.Keeping.{IsKeepable};
 ghost use Rattle.jl_layer.specs.Laws.{Grows};
 ghost use Rattle.jl_layer.specs.Refusals.{Applies, Refuses};
-ghost use Rattle.jl_link.specs.Worlds.{with_layers};
+ghost use Rattle.jl_loads.specs.Worlds.{with_layers};
 
-use crate::world::World;
+use crate::world::{World, laws};
 use jl_access::FactsEnd;
 use jl_config::Configuration;
 use jl_layer::{KeepEnd, LayerFault, Mode};
@@ -25,6 +25,7 @@ use jl_prim::{ConfigId, LayerId, LoaderId, ModuleId, ParentLoader};
 
 impl World {
     /// Adds a configuration, which has the next number, to those that are kept.
+    #[tactic(auto, using(crate::proofs::WorldStands::stand_kept))]
     pub fn keep(&mut self, cf: Configuration) -> Result<ConfigId, KeepEnd>
         requires keepable { IsKeepable self.old.layers.configurations cf }
         ensures number { IfOk result (λ c. c ≡ cf.id) }
@@ -33,11 +34,13 @@ impl World {
         ensures grows { Grows self.old.layers self.new.layers }
         ensures others { self.new ≡ with_layers self.new.layers self.old }
     {
-        self.layers.keep(cf)
+        laws(&self.loads);
+        self.loads.keep(cf)
     }
 
     /// Defines a layer over parent layers (`ModuleLayer.defineModules`): with one loader for all modules or one for
     /// each, which turn last to the given parent. On a refusal nothing has changed.
+    #[tactic(auto, using(crate::proofs::WorldStands::stand_defined))]
     pub fn define(
         &mut self,
         cf: ConfigId,
@@ -57,12 +60,13 @@ impl World {
         ensures grows { Grows self.old.layers self.new.layers }
         ensures others { self.new ≡ with_layers self.new.layers self.old }
     {
-        jl_layer::are_sound(&self.layers);
-        self.layers.define(cf, parents, mode, parent_loader)
+        laws(&self.loads);
+        self.loads.define(cf, parents, mode, parent_loader)
     }
 
     /// Adds that two loaders must not lead the class of a name to two modules (JVMS 5.3.4). `Clash` comes exactly
     /// where, with this constraint, joined loaders would; nothing changes then, nor without memory.
+    #[tactic(auto, using(crate::proofs::WorldStands::stand_imposed))]
     pub fn impose(&mut self, name: &[u8], l: LoaderId, l2: LoaderId) -> Result<(), ConstraintFault>
         requires text { IsUtf8 name.now }
         requires one { delegation.IsLoader self.old.layers.loaders l }
@@ -74,10 +78,12 @@ impl World {
         ensures grows { Grows self.old.layers self.new.layers }
         ensures others { self.new ≡ with_layers self.new.layers self.old }
     {
-        self.layers.impose(name, l, l2)
+        laws(&self.loads);
+        self.loads.impose(name, l, l2)
     }
 
     /// States that a reads b (`Module.addReads`).
+    #[tactic(auto, using(crate::proofs::WorldStands::stand_facts))]
     pub fn add_reads(&mut self, a: ModuleId, b: ModuleId) -> Result<(), FactsEnd>
         requires reader { access.IsModule self.old.layers.facts a }
         requires other { access.IsModule self.old.layers.facts b }
@@ -87,11 +93,13 @@ impl World {
         ensures grows { Grows self.old.layers self.new.layers }
         ensures others { self.new ≡ with_layers self.new.layers self.old }
     {
-        self.layers.add_reads(a, b)
+        laws(&self.loads);
+        self.loads.add_reads(a, b)
     }
 
     /// States that m exports a package of its own, to one module or, where none is given, to all
     /// (`Module.addExports`).
+    #[tactic(auto, using(crate::proofs::WorldStands::stand_facts))]
     pub fn add_exports(
         &mut self,
         m: ModuleId,
@@ -107,10 +115,12 @@ impl World {
         ensures grows { Grows self.old.layers self.new.layers }
         ensures others { self.new ≡ with_layers self.new.layers self.old }
     {
-        self.layers.add_exports(m, name, to)
+        laws(&self.loads);
+        self.loads.add_exports(m, name, to)
     }
 
     /// States that m opens a package of its own, likewise (`Module.addOpens`).
+    #[tactic(auto, using(crate::proofs::WorldStands::stand_facts))]
     pub fn add_opens(
         &mut self,
         m: ModuleId,
@@ -126,10 +136,12 @@ impl World {
         ensures grows { Grows self.old.layers self.new.layers }
         ensures others { self.new ≡ with_layers self.new.layers self.old }
     {
-        self.layers.add_opens(m, name, to)
+        laws(&self.loads);
+        self.loads.add_opens(m, name, to)
     }
 
     /// States that m uses a service, by the name of its class (`Module.addUses`).
+    #[tactic(auto, using(crate::proofs::WorldStands::stand_facts))]
     pub fn add_uses(&mut self, m: ModuleId, service: &[u8]) -> Result<(), FactsEnd>
         requires { access.IsModule self.old.layers.facts m }
         ensures ok { OnOk result (access.Adds (statements.Uses m service.now) self.old.layers.facts self.new.layers.facts) }
@@ -138,6 +150,7 @@ impl World {
         ensures grows { Grows self.old.layers self.new.layers }
         ensures others { self.new ≡ with_layers self.new.layers self.old }
     {
-        self.layers.add_uses(m, service)
+        laws(&self.loads);
+        self.loads.add_uses(m, service)
     }
 }

@@ -1,26 +1,28 @@
-//! Loading over layers of modules (JVMS 5.3): classes, and the checks that were made of them.
+//! References of loaded classes, resolved once for all (JVMS 5.4.3), and the methods that are selected (JVMS 5.4.6).
 #![tactic(auto)]
 
-mod accepting;
-mod access;
-mod asking;
-mod beginning;
-mod class;
-mod class_key;
-mod defining;
-mod end;
-mod error;
-mod file;
-mod finding;
+mod accessing;
+mod arrays;
+mod classes;
+mod constraining;
+mod entry;
+mod fields;
+mod keeping;
+mod kind;
 mod law;
 mod layering;
-mod loading;
-mod package;
-mod role;
-mod subtypes;
-mod text;
+mod linking;
+mod member;
+mod methods;
+mod nests;
+mod overriding;
+mod references;
+mod resolving;
+mod selection;
+mod targeting;
 mod world;
 
-pub use end::{FileEnd, LinkEnd, WorldFault};
-pub use law::{access_stays, classes_stay, loads_stay, sound_stays};
-pub use world::World;
+pub use jl_loads::{FileEnd, LinkEnd, PoolSlot, Target, WorldFault};
+pub use law::decided_stays;
+pub use member::Member;
+pub use world::{World, all_stand, is_sound};

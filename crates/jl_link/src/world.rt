@@ -1,62 +1,142 @@
-//! What has been loaded over layers of modules.
+//! A world: what has been loaded over layers of modules, and the references that were resolved.
 
-ghost use Rattle.std.specs.Prelude.{◌≡◌, ◌∷◌, List, Some, length, IfSome, OnErr, OnOk, slice_get};
-ghost use Rattle.jl_layer.specs.Layers.{IsModule};
+ghost use Rattle.std.specs.Prelude.{◌≡◌, ◌≤◌, ◌<◌, List, Some, length, IfOk, IfSome, IsErrOf, OnErr, OnOk};
+ghost use Rattle.std.specs.Str.{IsUtf8};
+ghost use Rattle.jl_logic.specs.Counts.{Rose};
+ghost use Rattle.jl_tree.specs.Files.{File};
 ghost use Rattle.jl_loaders.specs.Loaders.{IsLoader};
-ghost use Rattle.jl_link.specs.Worlds.{Loaded, IsClass, class_at, super_of, with_note};
+ghost use Rattle.jl_loads.specs.Beginning.{IsBegin, base_packages, begun};
+ghost use Rattle.jl_loads.specs.Ends.{Asks, Leaves};
+ghost use Rattle.jl_loads.specs.Laws.{AreSound, IsLoadedAs};
+ghost use Rattle.jl_loads.specs.Loading as loading;
+ghost use Rattle.jl_loads.specs.Worlds as worlds;
+ghost use Rattle.jl_loads.specs.Worlds.{IsClass, IsFieldOf, IsMethodOf, Keeps, Loaded, all_fields, all_methods, class_at, fields_of, methods_of, row_of, with_note};
+ghost use Rattle.jl_link.specs.Laws.{AllStand, DecidedStays};
 
-use crate::class::Class;
-use crate::class_key::ClassKey;
-use indexmap::IndexMap;
+use crate::law::decided_stays;
 use jl_access::{FactsEnd, Key, Report};
 use jl_class::ClassDecl;
 use jl_layer::Layers;
-use jl_prim::{ClassId, LoaderId, ModuleId};
-use std::alloc::Global;
+use jl_loads::{FileEnd, LinkEnd, Loads, PoolSlot, WorldFault};
+use jl_prim::{ClassId, FieldId, Items, LoaderId, MethodId, ModuleId};
+use jl_tree::Tree;
 use std::marker::Model;
 use std::rc::Rc;
 
-/// The layers of modules, the classes that were loaded over them, and the report of the checks.
+/// The layers of modules, the classes that were loaded over them, what their references were decided to mean, and the
+/// report of the checks.
 #[derive(Drop)]
 pub struct World {
-    pub(crate) layers: Layers,
-    pub(crate) base: ModuleId,
-    pub(crate) classes: Vec<Class>,
-    pub(crate) names: IndexMap<ClassKey, ClassId>,
-    pub(crate) report: Report,
+    pub(crate) loads: Loads,
 }
 
 impl Model for World {
-    ghost use Rattle.jl_link.specs.Worlds.{State};
-    ghost use Rattle.jl_link.specs.Whole.{IsWhole};
+    ghost use Rattle.jl_loads.specs.Worlds.{State};
+    ghost use Rattle.jl_link.specs.Laws.{AllStand};
 
     ghost Value = { State };
 
-    ghost view = { λ w. record { layers = w.layers; classes = w.classes.items; report = w.report } };
+    ghost view = { λ w. w.loads };
 
-    ghost invariant = { λ w. IsWhole w.names.entries w.base (record { layers = w.layers; classes = w.classes.items; report = w.report }) };
+    ghost invariant = { λ w. AllStand w.loads };
 }
 
 impl World {
+    /// The layers, with the classes of `java.base`, which are defined in this order, and with no check noted.
+    #[tactic(auto, using(crate::proofs::WorldStands::begun_stand))]
+    pub fn new(layers: Layers, base: Items<ClassDecl>) -> Result<World, WorldFault>
+        requires boot { 0 < length layers.layers }
+        requires begin { IsBegin (base_packages layers) base }
+        ensures { IfOk result (λ w. w ≡ begun layers base) }
+    {
+        Ok(World {
+            loads: Loads::new(layers, base)?,
+        })
+    }
+
+    /// A loader loads the class with a name, at a step.
+    ///
+    /// A class that is defined answers at once. Else the name is led to a module, the class is made by its file there,
+    /// and its supertypes are loaded and accessed before it is defined. What was defined and noted before an error stays.
+    /// `ReadFault` comes only where the count of the tree's faults rose.
+    #[tactic(auto, using(crate::proofs::WorldStands::stand_keeps))]
+    pub fn load<T: Tree>(
+        &mut self,
+        tree: &mut T,
+        loader: LoaderId,
+        name: &[u8],
+        at: u64,
+    ) -> Result<ClassId, LinkEnd>
+        requires text { IsUtf8 name.now }
+        requires loader { IsLoader self.old.layers.loaders loader }
+        ensures loads { (files : List File) → T.files tree.old ≡ Some files → Leaves (loading.load files at self.old loader name.now) result self.new }
+        ensures there { IfOk result (IsClass self.new) }
+        ensures found { IfOk result (λ c. IsLoadedAs self.new loader name.now c) }
+        ensures keeps { Keeps self.old self.new }
+        ensures asks { Asks self.old self.new (T.asked tree.old) (T.asked tree.new) }
+        ensures same_files { T.files tree.new ≡ T.files tree.old }
+        ensures counts { T.faults tree.old ≤ T.faults tree.new }
+        ensures read_fault { IsErrOf result LinkEnd.ReadFault → Rose (T.faults tree.old) (T.faults tree.new) }
+    {
+        laws(&self.loads);
+        self.loads.load(tree, loader, name, at)
+    }
+
+    /// Whether the module that a loader leads the name of a class to has the file of the class, and is not
+    /// `java.base`; a file that is too long counts. Nothing is loaded. `ReadFault` comes only where the count of the
+    /// tree's faults rose.
+    #[tactic(auto, using(crate::proofs::WorldStands::stand_keeps))]
+    pub fn has_file<T: Tree>(
+        &mut self,
+        tree: &mut T,
+        loader: LoaderId,
+        name: &[u8],
+    ) -> Result<bool, FileEnd>
+        requires text { IsUtf8 name.now }
+        requires loader { IsLoader self.old.layers.loaders loader }
+        ensures answers { (files : List File) → T.files tree.old ≡ Some files → IfOk result (λ there. (self.new, there) ≡ loading.has_file files self.old loader name.now) }
+        ensures keeps { Keeps self.old self.new }
+        ensures classes { self.new.classes ≡ self.old.classes }
+        ensures report { self.new.report ≡ self.old.report }
+        ensures slots { self.new.slots ≡ self.old.slots }
+        ensures asks { Asks self.old self.new (T.asked tree.old) (T.asked tree.new) }
+        ensures same_files { T.files tree.new ≡ T.files tree.old }
+        ensures counts { T.faults tree.old ≤ T.faults tree.new }
+        ensures read_fault { IsErrOf result FileEnd.ReadFault → Rose (T.faults tree.old) (T.faults tree.new) }
+    {
+        laws(&self.loads);
+        self.loads.has_file(tree, loader, name)
+    }
+
+    /// Notes a check in the report, at a step. Without memory all is as before.
+    #[tactic(auto, using(crate::proofs::WorldStands::stand_noted))]
+    pub fn note(&mut self, key: Key, step: u64) -> Result<(), FactsEnd>
+        ensures noted { OnOk result (self.new ≡ with_note key step self.old) }
+        ensures before { OnErr result (self.new ≡ self.old) }
+    {
+        laws(&self.loads);
+        self.loads.note(key, step)
+    }
+
     /// The layers.
     pub fn layers(&self) -> &Layers
         ensures { result.now ≡ self.now.layers }
     {
-        &self.layers
+        self.loads.layers()
     }
 
     /// The report of the checks.
     pub fn report(&self) -> &Report
         ensures { result.now ≡ self.now.report }
     {
-        &self.report
+        self.loads.report()
     }
 
     /// How many classes are defined. The first that was defined has number 1, the next 2, and so on.
     pub fn classes(&self) -> u32
         ensures { result ≡ length self.now.classes }
     {
-        self.classes.len() as u32
+        self.loads.classes()
     }
 
     /// What the file of a class declares.
@@ -64,7 +144,7 @@ impl World {
         requires { IsClass self.now c }
         ensures { IfSome (class_at self.now c) (λ x. result.now.value ≡ x.declared) }
     {
-        self.class_at(c).declared()
+        self.loads.class(c)
     }
 
     /// The defining loader of a class.
@@ -72,7 +152,7 @@ impl World {
         requires { IsClass self.now c }
         ensures { IfSome (class_at self.now c) (λ x. result ≡ x.loader) }
     {
-        self.class_at(c).loader()
+        self.loads.loader_of(c)
     }
 
     /// The module of a class.
@@ -80,46 +160,106 @@ impl World {
         requires { IsClass self.now c }
         ensures { IfSome (class_at self.now c) (λ x. result ≡ x.home) }
     {
-        self.class_at(c).home()
+        self.loads.module_of(c)
     }
 
     /// The direct superclass of a class.
     pub fn super_of(&self, c: ClassId) -> Option<ClassId>
         requires { IsClass self.now c }
-        ensures { result ≡ super_of self.now c }
+        ensures { result ≡ worlds.super_of self.now c }
     {
-        self.class_at(c).superclass()
+        self.loads.super_of(c)
     }
 
-    /// Notes a check in the report, at a step. Without memory all is as before.
-    pub fn note(&mut self, key: Key, step: u64) -> Result<(), FactsEnd>
-        ensures noted { OnOk result (self.new ≡ with_note key step self.old) }
-        ensures before { OnErr result (self.new ≡ self.old) }
-    {
-        self.report.note(key, step)
-    }
-
-    /// The class with a number, whose loader and module are there.
-    pub(crate) fn class_at(&self, c: ClassId) -> &Class
+    /// The direct superinterfaces of a class.
+    pub fn interfaces_of(&self, c: ClassId) -> &[ClassId]
         requires { IsClass self.now c }
-        ensures class { class_at self.now c ≡ Some result.now }
-        ensures module { IsModule self.now.layers result.now.home }
-        ensures loader { IsLoader self.now.layers.loaders result.now.loader }
+        ensures { result.now ≡ worlds.interfaces_of self.now c }
     {
-        let _ = &self.base;
-        self.numbered(c)
+        self.loads.interfaces_of(c)
     }
 
-    /// The class with a number.
-    fn numbered(&self, c: ClassId) -> &Class
+    /// The superinterfaces of a class, in the order in which methods are looked up.
+    pub fn superinterfaces(&self, c: ClassId) -> &[ClassId]
         requires { IsClass self.now c }
-        ensures { class_at self.now c ≡ Some result.now }
+        ensures { result.now ≡ worlds.superinterfaces self.now c }
     {
-        &self.classes[c.0 as usize - 1]
+        self.loads.superinterfaces(c)
     }
 
-    /// Where memory comes from.
-    pub(crate) fn allocator(&self) -> Global {
-        *self.classes.allocator()
+    /// Whether a class is another one, or has it among its superclasses and superinterfaces at any depth.
+    pub fn is_subtype(&self, c: ClassId, d: ClassId) -> bool
+        ensures { result ≡ worlds.is_subtype self.now c d }
+    {
+        self.loads.is_subtype(c, d)
     }
+
+    /// What is decided of the references of a class, by the indices of its pool.
+    pub fn pool_of(&self, c: ClassId) -> &[PoolSlot]
+        requires { IsClass self.now c }
+        ensures row { result.now ≡ row_of self.now c }
+        ensures pool { IfSome (class_at self.now c) (λ x. length result.now ≡ length x.declared.pool) }
+    {
+        self.loads.pool_of(c)
+    }
+
+    /// The number of a field of a class.
+    pub fn field_id(&self, c: ClassId, at: usize) -> FieldId
+        requires class { IsClass self.now c }
+        requires within { at < length (fields_of self.now c) }
+        ensures number { result ≡ worlds.field_id self.now c at }
+        ensures there { result.0 < all_fields self.now }
+    {
+        self.loads.field_id(c, at)
+    }
+
+    /// The class of a field, and its place there.
+    pub fn field_owner(&self, f: FieldId) -> (ClassId, usize)
+        requires { f.0 < all_fields self.now }
+        ensures { IsFieldOf self.now f result.0 result.1 }
+    {
+        self.loads.field_owner(f)
+    }
+
+    /// The number of a method of a class.
+    pub fn method_id(&self, c: ClassId, at: usize) -> MethodId
+        requires class { IsClass self.now c }
+        requires within { at < length (methods_of self.now c) }
+        ensures number { result ≡ worlds.method_id self.now c at }
+        ensures there { result.0 < all_methods self.now }
+    {
+        self.loads.method_id(c, at)
+    }
+
+    /// The class of a method, and its place there.
+    pub fn method_owner(&self, m: MethodId) -> (ClassId, usize)
+        requires { m.0 < all_methods self.now }
+        ensures { IsMethodOf self.now m result.0 result.1 }
+    {
+        self.loads.method_owner(m)
+    }
+}
+
+/// Says that all references of a world stand: each that passed refers to its target, and each class of which something
+/// is decided is there.
+pub fn all_stand(w: &World)
+    ensures { AllStand w.now }
+{
+    let _ = &w.loads;
+}
+
+/// Says that what is loaded is sound.
+pub fn is_sound(w: &World)
+    ensures { AreSound w.now }
+{
+    jl_loads::is_sound(&w.loads);
+}
+
+/// What is loaded is sound, and what was decided stays.
+pub(crate) fn laws(loads: &Loads)
+    ensures sound { AreSound loads.now }
+    ensures stays { DecidedStays }
+{
+    jl_loads::is_sound(loads);
+    decided_stays();
 }

@@ -1,7 +1,7 @@
 -- That a world may begin with no class (JVMS 5.3.1).
 use Rattle.std.proofs.Common.{◌≡◌, ℕ, List, [], IsTrue, refl, sym, subst, arith}
 use Rattle.jl_class.specs.Classes.{Class}
-use Rattle.jl_link.specs.Beginning.{IsBegin, stand_in_order}
+use Rattle.jl_loads.specs.Beginning.{IsBegin, stand_in_order}
 
 none_in_order : IsTrue (stand_in_order [] [])
 unfolding stand_in_order

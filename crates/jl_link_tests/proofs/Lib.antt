@@ -1,3 +1,4 @@
 -- Lemmas.
 pub mod Begun
-pub mod Kept
+pub mod Counted
+pub mod Keepable

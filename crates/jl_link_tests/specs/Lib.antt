@@ -1,2 +1,3 @@
 -- Definitions.
+pub mod Counts
 pub mod Grants

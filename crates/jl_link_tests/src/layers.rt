@@ -1,166 +1,56 @@
-//! Boot layers that a test makes.
+//! Layers of modules that a test makes.
 
-ghost use Rattle.std.specs.Prelude.{◌≡◌, ◌<◌, ◌≤◌, [], ◌∷◌, true, All, Contains, codes, length, IfOk, OnOk};
-ghost use Rattle.std.specs.List.{list_all, list_any};
-ghost use Rattle.jl_logic.specs.Order.{is_text};
-ghost use Rattle.jl_prim.specs.declared.declaration.Observed.{Observed};
-ghost use Rattle.jl_config.specs.Located.{configuration_of, name_of};
-ghost use Rattle.jl_link_tests.specs.Grants.{has_package, has_its_grants};
-ghost use Rattle.jl_link_tests.specs.Grants as grants;
+ghost use Rattle.std.specs.Prelude.{◌<◌, length, IfOk};
 
-use jl_config::{Configuration, resolve};
-use jl_layer::{Layers, are_sound, resolved_is_keepable};
-use jl_making::declaration;
-use jl_prim::{ConfigId, Copied, Found, Grant, Items, Name, Observed};
+use crate::making::{found, words};
+use crate::showing::number;
+use crate::stage::Stage;
+use jl_layer::{Layers, Mode};
+use jl_prim::{ConfigId, LayerId, LoaderId, ParentLoader};
 use std::alloc::Global;
 use std::test::Fail;
 
-/// Layers with the boot layer of the modules of a text, with `|` between them. The files of a module are in a folder
-/// of its name.
-pub fn booted(alloc: Global, text: &str) -> Result<Layers, Fail>
+/// The layers of a text, with `#` between them: the modules of the boot layer, and then of each other one
+/// `MODE PARENT LOADER : MODULES`, where the mode is `one` or `many`, the parent the number of a layer, and the loader
+/// that to which its loaders turn last. The files of a module are in a folder of its name.
+pub fn layers_of(alloc: Global, text: &str) -> Result<Layers, Fail>
     ensures { IfOk result (λ layers. 0 < length layers.layers) }
 {
-    let modules = found(alloc, text)?;
-    let mut layers = Layers::new(alloc);
-    let cf = keep(alloc, &mut layers, &modules, &[ConfigId(0)])?;
-    define_boot(&mut layers, cf)?;
-    Ok(layers)
+    let mut stage = Stage::new(alloc);
+    for layer in text.split('#') {
+        match layer.split_once(" : ") {
+            None => boot(alloc, &mut stage, layer)?,
+            Some((head, modules)) => define(alloc, &mut stage, head, modules)?,
+        }
+    }
+    stage.into_layers()
 }
 
-/// Keeps the configuration of modules, all of which are roots, over parents.
-fn keep(
-    alloc: Global,
-    layers: &mut Layers,
-    modules: &Found,
-    parents: &[ConfigId],
-) -> Result<ConfigId, Fail>
-    ensures { OnOk result (layers.new.layers ≡ layers.old.layers) }
-{
-    let roots = names_of(alloc, modules)?;
-    let nothing = Found {
-        modules: Items::new(alloc),
-    };
-    let known = layers.configurations();
-    if known.len() > 4096
-        || !are_known(parents, known.len())
-        || !have_their_grants(modules.modules.as_slice())
-    {
-        return Err(Fail::new("no question over kept configurations"));
-    }
-    let cf = resolve(
-        alloc,
-        known,
-        modules,
-        parents,
-        &nothing,
-        roots.as_slice(),
-        false,
-    )?;
-    are_sound(layers);
-    resolved_is_keepable();
-    Ok(layers.keep(cf)?)
-}
-
-/// Defines the boot layer.
-fn define_boot(layers: &mut Layers, cf: ConfigId) -> Result<(), Fail>
-    requires { layers.old.layers ≡ [] }
-    ensures { OnOk result (0 < length layers.new.layers) }
-{
-    if !is_bootable(layers.configurations(), cf) {
-        return Err(Fail::new("no boot layer"));
-    }
-    match layers.define_boot(cf) {
+fn boot(alloc: Global, stage: &mut Stage, modules: &str) -> Result<(), Fail> {
+    let modules = found(alloc, modules)?;
+    let cf = stage.keep(alloc, &modules, &[ConfigId(0)])?;
+    match stage.define_boot(cf)? {
         Ok(_) => Ok(()),
         Err(_) => Err(Fail::new("the boot layer is refused")),
     }
 }
 
-/// Whether the configurations with these numbers are there.
-fn are_known(parents: &[ConfigId], known: usize) -> bool
-    ensures { result ≡ true → All (λ (p : ConfigId). p.0 ≤ known) parents.now }
-{
-    parents.iter().all(|p| p.0 as usize <= known)
-}
-
-fn found(alloc: Global, text: &str) -> Result<Found, Fail> {
-    let mut modules = Items::new(alloc);
-    for statements in text.split('|') {
-        let declaration = declaration(alloc, statements.trim())?;
-        let place = declaration.name.copy()?;
-        modules.push(Observed { declaration, place })?;
+fn define(alloc: Global, stage: &mut Stage, head: &str, modules: &str) -> Result<(), Fail> {
+    let words = words(alloc, head)?;
+    let [mode, parent, loader] = words.as_slice() else {
+        return Err(Fail::new("no layer"));
+    };
+    let mode = if *mode == "one" {
+        Mode::One
+    } else {
+        Mode::Many
+    };
+    let parent = number(parent)?;
+    let loader = ParentLoader::Loader(LoaderId(number(loader)?));
+    let modules = found(alloc, modules)?;
+    let cf = stage.keep(alloc, &modules, &[ConfigId(parent)])?;
+    match stage.define(cf, &[LayerId(parent)], mode, loader)? {
+        Ok(_) => Ok(()),
+        Err(_) => Err(Fail::new("the layer is refused")),
     }
-    Ok(Found { modules })
-}
-
-/// The names of modules.
-fn names_of(alloc: Global, found: &Found) -> Result<Vec<Name>, Fail> {
-    let mut all = Vec::new(alloc);
-    for o in found.modules.as_slice() {
-        all.push(o.declaration.name.copy()?)?;
-    }
-    Ok(all)
-}
-
-/// Whether modules export and open packages of their own.
-fn have_their_grants(modules: &[Observed]) -> bool
-    ensures { result ≡ list_all has_its_grants modules.now }
-{
-    modules.iter().all(|o| has_its_grants(o))
-}
-
-fn has_its_grants(o: &Observed) -> bool
-    ensures { result ≡ grants.has_its_grants o.now }
-{
-    let d = &o.declaration;
-    let packages = d.packages.as_slice();
-    are_among(packages, d.exports.as_slice()) && are_among(packages, d.opens.as_slice())
-}
-
-fn are_among(packages: &[Name], grants: &[Grant]) -> bool
-    ensures { result ≡ list_all (has_package packages.now) grants.now }
-{
-    grants.iter().all(|g| has_package(packages, &g.package))
-}
-
-fn has_package(packages: &[Name], name: &Name) -> bool
-    ensures { result ≡ list_any (is_text name.now) packages.now }
-{
-    packages.iter().any(|p| name == p)
-}
-
-/// Whether the boot layer may be one of this configuration: it is there, has `java.base`, and the empty one is its
-/// parent.
-fn is_bootable(known: &[Configuration], cf: ConfigId) -> bool
-    ensures known { result ≡ true → cf.0 ≤ length known.now }
-    ensures base { result ≡ true → (o : Observed) × Contains (configuration_of known.now cf).modules o × (name_of o ≡ codes "java.base") }
-    ensures parents { result ≡ true → (configuration_of known.now cf).parents ≡ record { 0 = 0 } ∷ [] }
-{
-    if cf.0 == 0 {
-        return false;
-    }
-    match known.get(cf.0 as usize - 1) {
-        Some(g) => is_empty_alone(g.parents()) && has_base(g.modules()),
-        None => false,
-    }
-}
-
-/// Whether the empty configuration is the only one of these.
-fn is_empty_alone(parents: &[ConfigId]) -> bool
-    ensures { result ≡ true → parents.now ≡ record { 0 = 0 } ∷ [] }
-{
-    match parents {
-        [parent] => parent.0 == 0,
-        _ => false,
-    }
-}
-
-fn has_base(modules: &[Observed]) -> bool
-    ensures { result ≡ true → (o : Observed) × Contains modules.now o × (name_of o ≡ codes "java.base") }
-{
-    for o in modules {
-        if o.declaration.name.as_str() == "java.base" {
-            return true;
-        }
-    }
-    false
 }

@@ -1,5 +1,0 @@
-use Rattle.jl_link.proofs.Kept.{classes_stay_lem}
-use Rattle.jl_link.proofs.law.classes_stay.Goals as goal
-
-pub returns : goal.returns
-returns c = classes_stay_lem c.layers_stay.ensures

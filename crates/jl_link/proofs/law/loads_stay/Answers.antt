@@ -1,5 +1,0 @@
-use Rattle.jl_link.proofs.Found.{loads_stay_lem}
-use Rattle.jl_link.proofs.law.loads_stay.Goals as goal
-
-pub returns : goal.returns
-returns c = loads_stay_lem c.layers_stay.ensures

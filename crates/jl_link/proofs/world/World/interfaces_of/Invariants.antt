@@ -1,6 +1,0 @@
-use Rattle.std.proofs.Common.{◌≡◌, map, take}
-use Rattle.jl_link.specs.Beginning.{class_named}
-use Rattle.jl_link.proofs.world.World.interfaces_of.Given as goal
-
-abbrev pub invariant-loop-name : goal.invariant-loop-name
-invariant-loop-name l = l.interfaces.items ≡ map (class_named l.self l.loader) (take l.name-index l.names)
