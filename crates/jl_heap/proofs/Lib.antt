@@ -3,6 +3,7 @@ mod Changing
 mod Counting
 pub mod Elements
 mod Fitting
+mod Giving
 mod Keeping
 mod Placing
 mod Rows

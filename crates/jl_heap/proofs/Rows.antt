@@ -20,7 +20,7 @@ use Rattle.jl_heap.specs.declared.value.Value.{Value}
 use Rattle.jl_heap.specs.declared.value.Value.TheVariants as values
 use Rattle.jl_heap.specs.Objects.{shape_slots, new_object, slot_kinds, slot_count, FitsShape}
 use Rattle.jl_heap.specs.Heap.{HeapState, is_full, raised_by, begun_in, next_number, object_at, shape_at, kinds_in, slot_at, units_at, items_at, mirror_at, with_object, with_changed, with_slot, with_mirror, with_text, with_listed}
-use Rattle.jl_heap.specs.Frames.{FrameState, FramesState, is_deep, new_frame, with_frame, without_frame, frame_at, top_of, value_at, room_of, locals_in, height_in, room_in, on_top, with_value, without_value, without_values, with_local}
+use Rattle.jl_heap.specs.Frames.{FrameState, FramesState, is_deep, new_frame, with_frame, with_call, without_frame, frame_at, top_of, value_at, room_of, locals_in, height_in, room_in, on_top, with_value, without_value, without_values, with_local}
 use Rattle.jl_heap.specs.Statics.{entry_of, new_entry, with_class, with_changed_class, with_usable, with_static, is_usable, static_at}
 use Rattle.jl_heap.specs.Kept.{KeptState, kept_under, with_kept}
 
@@ -266,7 +266,7 @@ other_kind = record { kind = frame_kinds.Init class; max_stack = 0; max_locals =
 abbrev large : NewFrame
 large = record { kind = frame_kinds.Enter (record { 0 = 1 }); max_stack = 65535; max_locals = 65535 }
 
-frames : List FrameState → FramesState
+abbrev frames : List FrameState → FramesState
 frames fs = record { task = 1; frames = fs }
 
 abbrev two_frames : FramesState
@@ -405,3 +405,17 @@ an_array_with_more_dimensions = refl
 
 the_second_of_two : kept_under (keys.Boxed class (pos 2)) ((keys.Boxed class (pos 1), record { 0 = 9 }) ∷ (keys.Boxed class (pos 2), record { 0 = 10 }) ∷ []) ≡ Some (record { 0 = 10 })
 the_second_of_two = refl
+
+-- ---- calls
+
+-- a caller with a reference, and on it a long as its two slots
+abbrev calling : FrameState
+calling = record { kind = frame_kinds.Method (record { 0 = 1 }); max_stack = 4; max_locals = 0; pc = 7; locals = []; stack = values.Top ∷ values.Long (negsuc 0) ∷ values.Ref None ∷ values.Int (pos 5) ∷ [] }
+
+abbrev called_with : NewFrame
+called_with = record { kind = frame_kinds.Method (record { 0 = 2 }); max_stack = 1; max_locals = 4 }
+
+-- three slots move, the deepest first; one local is left, and what lay below stays
+three_move : with_call called_with 3 (frames (calling ∷ [])) ≡ frames (record { kind = frame_kinds.Method (record { 0 = 2 }); max_stack = 1; max_locals = 4; pc = 0; locals = values.Ref None ∷ values.Long (negsuc 0) ∷ values.Top ∷ values.Top ∷ []; stack = [] }
+    ∷ record { kind = frame_kinds.Method (record { 0 = 1 }); max_stack = 4; max_locals = 0; pc = 7; locals = []; stack = values.Int (pos 5) ∷ [] } ∷ [])
+three_move = refl

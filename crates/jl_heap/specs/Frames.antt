@@ -1,5 +1,5 @@
 -- Frames of calls: their locals and their operand stacks, slot by slot (JVMS 2.6).
-use Rattle.std.specs.Prelude.{◌≡◌, ℕ, ◌+◌, ◌-◌, ◌≤◌, List, [], ◌∷◌, length, drop, Option, IsSome, Bool, ◌||◌, nat_lt, slice_get, slice_set, map, replicate}
+use Rattle.std.specs.Prelude.{◌≡◌, ℕ, ◌+◌, ◌-◌, ◌≤◌, List, [], ◌∷◌, ◌++◌, length, take, drop, reverse, Option, IsSome, Bool, ◌||◌, nat_lt, slice_get, slice_set, map, replicate}
 use Rattle.std.specs.List.{sum}
 use Rattle.std.specs.Option.{option_map_or}
 use Rattle.jl_prim.specs.declared.limits.TheConstants.{MOST_FRAMES, MOST_FRAME_SLOTS}
@@ -86,6 +86,25 @@ with_value v f = record f { stack = v ∷ f.stack }
 -- the value on top of the stack is taken
 abbrev pub without_value : FrameState → FrameState
 without_value f = record f { stack = drop 1 f.stack }
+
+-- the top frame's stack, and none where there is no frame
+abbrev pub stack_in : FramesState → List Value
+stack_in s = option_map_or (λ (f : FrameState). f.stack) (top_of s) []
+
+-- so many slots of the stack are taken
+abbrev pub without_slots : ℕ → FrameState → FrameState
+without_slots n f = record f { stack = drop n f.stack }
+
+-- the locals of a called frame: so many slots of the caller's stack, the deepest first, and then nothing
+abbrev pub called_locals : ℕ → ℕ → List Value → List Value
+called_locals n most stack = reverse (take n stack) ++ replicate (most - n) values.Top
+
+abbrev pub called_frame : NewFrame → ℕ → List Value → FrameState
+called_frame f n stack = record (new_frame f) { locals = called_locals n f.max_locals stack }
+
+-- a frame is called: so many slots of the stack below have moved into its locals
+abbrev pub with_call : NewFrame → ℕ → FramesState → FramesState
+with_call f n s = record s { frames = called_frame f n (stack_in s) ∷ first_changed (without_slots n) s.frames }
 
 -- all values of the stack are taken
 abbrev pub without_values : FrameState → FrameState

@@ -1,7 +1,7 @@
 //! One frame (JVMS 2.6).
 
-ghost use Rattle.std.specs.Prelude.{◌≡◌, ◌+◌, ◌<◌, ◌≤◌, length, IfOk, IsOkUnless, Some, slice_get};
-ghost use Rattle.jl_heap.specs.Frames.{FrameState, new_frame, frame_slots, room_of, value_at, with_pc, with_local, with_value, without_value, without_values, IsWithin};
+ghost use Rattle.std.specs.Prelude.{◌≡◌, ◌+◌, ◌-◌, ◌<◌, ◌≤◌, ◌++◌, length, take, drop, reverse, IfOk, IsOkUnless, Some, replicate, slice_get, vec_len, vec_capacity};
+ghost use Rattle.jl_heap.specs.Frames.{FrameState, new_frame, frame_slots, room_of, value_at, with_pc, with_local, with_value, without_value, without_slots, called_locals, without_values, IsWithin};
 
 use crate::ends::FrameEnd;
 use crate::value::Value;
@@ -150,6 +150,18 @@ impl Frame {
         self.stack.pop()
     }
 
+    /// Moves so many slots of the stack into the locals of another frame, which hold nothing, the deepest first.
+    pub fn give(&mut self, to: &mut Frame, slots: u16)
+        requires taken { slots ≤ length self.old.stack }
+        requires locals { slots ≤ to.old.max_locals }
+        requires nothing { to.old.locals ≡ replicate to.old.max_locals Value.Top }
+        ensures left { self.new ≡ without_slots slots self.old }
+        ensures given { to.new ≡ record to.old { locals = called_locals slots to.old.max_locals self.old.stack } }
+    {
+        copy_last(&self.stack, &mut to.locals, slots as usize);
+        take_last(&mut self.stack, slots as usize);
+    }
+
     /// Takes all values of the stack.
     pub fn clear(&mut self)
         ensures cleared { self.new ≡ without_values self.old }
@@ -157,4 +169,26 @@ impl Frame {
     {
         self.stack.clear();
     }
+}
+
+/// Copies so many values at the end of a list to the front of another.
+#[tactic(auto, using(crate::proofs::Giving::sliced, crate::proofs::Giving::moved))]
+fn copy_last(from: &[Value], to: &mut [Value], count: usize)
+    requires there { count ≤ length from.now }
+    requires room { count ≤ length to.old }
+    ensures copied { to.new ≡ reverse (take count (reverse from.now)) ++ drop count to.old }
+    ensures length { length to.new ≡ length to.old }
+{
+    to[..count].copy_from_slice(&from[from.len() - count..]);
+}
+
+/// Takes so many values off the end of a list.
+#[tactic(auto, using(crate::proofs::Giving::stay))]
+fn take_last(list: &mut Vec<Value>, count: usize)
+    requires { count ≤ vec_len list.old }
+    ensures left { reverse list.new.items ≡ drop count (reverse list.old.items) }
+    ensures length { vec_len list.new ≡ vec_len list.old - count }
+    ensures capacity { vec_capacity list.new ≡ vec_capacity list.old }
+{
+    list.truncate(list.len() - count);
 }

@@ -1,9 +1,9 @@
 //! The frames of a task (JVMS 2.5.2, 2.6).
 
-ghost use Rattle.std.specs.Prelude.{◌≡◌, ◌↔◌, ◌+◌, ◌-◌, ◌<◌, [], length, None, Some, IsTrue, IsErrOf, IsSome, OnOk, OnErr, option_map, slice_get};
+ghost use Rattle.std.specs.Prelude.{◌≡◌, ◌↔◌, ◌+◌, ◌-◌, ◌<◌, ◌≤◌, [], length, None, Some, IsTrue, IsErrOf, IsSome, OnOk, OnErr, option_map, slice_get};
 ghost use Rattle.std.specs.Option.{option_and_then};
 ghost use Rattle.jl_heap.specs.declared.ends.FrameEnd.TheVariants.{Deep};
-ghost use Rattle.jl_heap.specs.Frames.{FrameState, FramesState, is_deep, with_frame, on_top, without_frame, frame_at, value_at, with_pc, with_local, with_value, without_value, without_values, top_of, room_of, locals_in, height_in, room_in, StaysOnTop, IsWithin};
+ghost use Rattle.jl_heap.specs.Frames.{FrameState, FramesState, is_deep, with_frame, with_call, on_top, without_frame, frame_at, value_at, with_pc, with_local, with_value, without_value, without_values, top_of, room_of, locals_in, height_in, room_in, StaysOnTop, IsWithin};
 
 use crate::ends::FrameEnd;
 use crate::frame::{Frame, FrameKind, NewFrame};
@@ -64,6 +64,31 @@ impl Frames {
         if let Some(top) = self.top.replace(pushed) {
             self.below.push_reserved(top);
         }
+        Ok(())
+    }
+
+    /// Pushes the frame of a call: so many slots of the stack of the frame that calls move into its locals, the deepest
+    /// first. Deep exactly where the frames or their slots would pass the limit; a refusal changes nothing.
+    pub fn call(&mut self, frame: NewFrame, slots: u16) -> Result<(), FrameEnd>
+        requires there { IsSome (top_of self.old) }
+        requires taken { slots ≤ height_in self.old }
+        requires locals { slots ≤ frame.max_locals }
+        ensures deep { IsErrOf result Deep ↔ IsTrue (is_deep self.old frame) }
+        ensures called { OnOk result (self.new ≡ with_call frame slots self.old) }
+        ensures refused { OnErr result (self.new ≡ self.old) }
+    {
+        if self.is_deep(frame) {
+            return Err(FrameEnd::Deep);
+        }
+        let alloc = *self.below.allocator();
+        let mut pushed = Frame::new(alloc, frame)?;
+        self.below.reserve(1)?;
+        self.slots += pushed.slots();
+        if let Some(mut top) = self.top.take() {
+            top.give(&mut pushed, slots);
+            self.below.push_reserved(top);
+        }
+        self.top = Some(pushed);
         Ok(())
     }
 

@@ -1,6 +1,6 @@
 //! The heap (JVMS 2.5.3).
 
-ghost use Rattle.std.specs.Prelude.{◌≡◌, ◌↔◌, ◌<◌, ◌≤◌, ◌+◌, [], length, IfOk, IsErrOf, IsSome, IsTrue, OnErr, OnOk, Some, map, slice_get, false};
+ghost use Rattle.std.specs.Prelude.{◌≡◌, ◌↔◌, ◌<◌, ◌≤◌, ◌+◌, [], length, IfOk, IsErrOf, IsSome, IsTrue, OnErr, OnOk, Some, map, slice_get, false, not};
 ghost use Rattle.jl_prim.specs.declared.numbers.ObjRef.{ObjRef};
 ghost use Rattle.jl_heap.specs.declared.ends.HeapEnd.TheVariants.{Full};
 ghost use Rattle.jl_heap.specs.Heap.{HeapState, next_number, is_full, with_object, with_changed, with_slot, with_mirror, with_text, with_listed, slot_at, object_at, shape_at, kinds_in, units_at, items_at, mirror_at, begun_by};
@@ -72,6 +72,13 @@ impl Heap {
     {
         let slots = shape_slots(&shape);
         self.make(shape, slots)
+    }
+
+    /// Whether there is room for so many more slots.
+    pub fn has_room(&self, slots: u64) -> bool
+        ensures { result ≡ not (is_full self.now slots) }
+    {
+        !self.is_full(slots)
     }
 
     /// Whether so many more slots pass the limit.

@@ -111,6 +111,17 @@ impl Statics {
         }
     }
 
+    /// The value of a static field, by its place among those of its class. None where the class is not entered, or has no
+    /// such place.
+    pub fn get(&self, c: ClassId, at: usize) -> Option<Value>
+        ensures { result ≡ static_at self.now c at }
+    {
+        match self.entry(c) {
+            Some(entry) => entry.values.as_slice().get(at).copied(),
+            None => None,
+        }
+    }
+
     /// The value of a static field, by its place among those of its class.
     pub fn value(&self, c: ClassId, at: usize) -> Value
         requires { (v : Value) × (static_at self.now c at ≡ Some v) }

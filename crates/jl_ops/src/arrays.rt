@@ -71,7 +71,7 @@ fn no_array() -> Stop
 }
 
 /// The array of a reference.
-fn array_at(heap: &Heap, o: Option<ObjRef>) -> Result<Array, Stop>
+pub fn array_at(heap: &Heap, o: Option<ObjRef>) -> Result<Array, Stop>
     ensures array { result ≡ words.array_at heap.now o }
     ensures kinds { IfOk result (λ a. kinds_in heap.now a.object ≡ replicate a.count (element_kind a.element)) }
 {
@@ -92,7 +92,7 @@ fn array_at(heap: &Heap, o: Option<ObjRef>) -> Result<Array, Stop>
 }
 
 /// The array of a reference, which has to have such elements.
-fn array_with(heap: &Heap, o: Option<ObjRef>, wanted: Elements) -> Result<Array, Stop>
+pub fn array_with(heap: &Heap, o: Option<ObjRef>, wanted: Elements) -> Result<Array, Stop>
     ensures array { result ≡ words.array_with wanted heap.now o }
     ensures kinds { IfOk result (λ a. kinds_in heap.now a.object ≡ replicate a.count (words.kind_of_elements wanted)) }
 {
@@ -104,7 +104,7 @@ fn array_with(heap: &Heap, o: Option<ObjRef>, wanted: Elements) -> Result<Array,
 }
 
 /// An index of an array.
-fn index_in(array: Array, at: i32) -> Result<usize, Stop>
+pub fn index_in(array: Array, at: i32) -> Result<usize, Stop>
     ensures index { result ≡ words.index_in array at }
     ensures within { IfOk result (λ i. i < array.count) }
 {

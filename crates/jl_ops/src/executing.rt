@@ -140,7 +140,7 @@ fn first_at(instrs: &[Instr], place: u32) -> Option<&Instr>
 }
 
 /// The instruction that stands at a place.
-fn instr_at(code: &Code, place: u32) -> Option<&Instr>
+pub fn instr_at(code: &Code, place: u32) -> Option<&Instr>
     ensures { option_map (λ i. i.now) result ≡ words.instr_at code.now place }
 {
     match code {

@@ -11,7 +11,7 @@ use jl_prim::ObjRef;
 /// The value so many slots below the top of the stack. What is missing, or cuts a long, is `Top`.
 pub fn value_under(frames: &Frames, down: usize) -> Value
     requires frame { IsSome (top_of frames.now) }
-    requires few { down < 8 }
+    requires few { down < 65536 }
     ensures value { result ≡ words.value_under frames.now down }
     ensures deep { words.IsDeep result down (height_in frames.now) }
 {
@@ -58,7 +58,7 @@ pub fn wanted(kind: Kind, v: Value) -> Result<Value, Stop>
 /// The int so many slots below the top of the stack.
 pub fn int_under(frames: &Frames, down: usize) -> Result<i32, Stop>
     requires frame { IsSome (top_of frames.now) }
-    requires few { down < 8 }
+    requires few { down < 65536 }
     ensures value { result ≡ words.int_under frames.now down }
     ensures deep { OnOk result (down + 1 ≤ height_in frames.now) }
 {
@@ -71,7 +71,7 @@ pub fn int_under(frames: &Frames, down: usize) -> Result<i32, Stop>
 /// The long so many slots below the top of the stack.
 pub fn long_under(frames: &Frames, down: usize) -> Result<i64, Stop>
     requires frame { IsSome (top_of frames.now) }
-    requires few { down < 8 }
+    requires few { down < 65536 }
     ensures value { result ≡ words.long_under frames.now down }
     ensures deep { OnOk result (down + 2 ≤ height_in frames.now) }
 {
@@ -84,7 +84,7 @@ pub fn long_under(frames: &Frames, down: usize) -> Result<i64, Stop>
 /// The reference so many slots below the top of the stack.
 pub fn ref_under(frames: &Frames, down: usize) -> Result<Option<ObjRef>, Stop>
     requires frame { IsSome (top_of frames.now) }
-    requires few { down < 8 }
+    requires few { down < 65536 }
     ensures value { result ≡ words.ref_under frames.now down }
     ensures deep { OnOk result (down + 1 ≤ height_in frames.now) }
 {
