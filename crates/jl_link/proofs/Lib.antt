@@ -18,6 +18,7 @@ pub mod Moved
 pub mod Naming
 pub mod Onwards
 pub mod Outcomes
+pub mod Owned
 pub mod Reaching
 pub mod Resolved
 pub mod Searched
@@ -25,5 +26,6 @@ pub mod Settling
 pub mod WorldStands
 pub mod Going
 pub mod Through
+pub mod Targets
 mod NestRows
 mod ReferenceRows

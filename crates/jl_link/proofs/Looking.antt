@@ -22,7 +22,7 @@ module _ {X : Type 0} where
   or_some None b x e = inr e
   or_some (Some y) b x e = inl e
 
-  numbered_there : (xs : List X) (n : ℕ) (x : X) → numbered xs n ≡ Some x → (0 < n) × (n ≤ length xs)
+  pub numbered_there : (xs : List X) (n : ℕ) (x : X) → numbered xs n ≡ Some x → (0 < n) × (n ≤ length xs)
   numbered_there xs zero x e = absurd (none-some x e)
   numbered_there xs (suc n) x e = let lt : n < length xs = slice_get_within xs n x e in (omega arith, omega arith)
 

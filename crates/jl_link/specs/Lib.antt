@@ -10,4 +10,7 @@ pub mod References
 pub mod Standing
 pub mod Slots
 pub mod Selection
+pub mod Owners
+pub mod Named
+pub mod There
 pub mod Laws

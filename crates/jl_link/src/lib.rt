@@ -25,4 +25,4 @@ mod world;
 pub use jl_loads::{FileEnd, LinkEnd, PoolSlot, Target, WorldFault};
 pub use law::decided_stays;
 pub use member::Member;
-pub use world::{World, all_stand, is_sound};
+pub use world::{World, all_stand, is_sound, targets_are_there};

@@ -1,24 +1,29 @@
 //! A world: what has been loaded over layers of modules, and the references that were resolved.
 
-ghost use Rattle.std.specs.Prelude.{◌≡◌, ◌≤◌, ◌<◌, List, Some, length, IfOk, IfSome, IsErrOf, OnErr, OnOk};
+ghost use Rattle.std.specs.Prelude.{ℕ, ◌≡◌, ◌≤◌, ◌<◌, List, Some, length, IfOk, IfSome, IsErrOf, OnErr, OnOk};
 ghost use Rattle.std.specs.Str.{IsUtf8};
 ghost use Rattle.jl_logic.specs.Counts.{Rose};
 ghost use Rattle.jl_tree.specs.Files.{File};
-ghost use Rattle.jl_loaders.specs.Loaders.{IsLoader};
+ghost use Rattle.jl_layer.specs.Layers.{IsModule};
+ghost use Rattle.jl_loaders.specs.Loaders.{IsLoader, lead};
 ghost use Rattle.jl_loads.specs.Beginning.{IsBegin, base_packages, begun};
 ghost use Rattle.jl_loads.specs.Ends.{Asks, Leaves};
 ghost use Rattle.jl_loads.specs.Laws.{AreSound, IsLoadedAs};
 ghost use Rattle.jl_loads.specs.Loading as loading;
 ghost use Rattle.jl_loads.specs.Worlds as worlds;
-ghost use Rattle.jl_loads.specs.Worlds.{IsClass, IsFieldOf, IsMethodOf, Keeps, Loaded, all_fields, all_methods, class_at, fields_of, methods_of, row_of, with_note};
+ghost use Rattle.jl_loads.specs.declared.slot.PoolSlot.TheVariants.{Passed};
+ghost use Rattle.jl_loads.specs.Worlds.{slot_at, IsClass, IsFieldOf, IsMethodOf, Keeps, Loaded, all_fields, all_methods, class_at, fields_of, methods_of, row_of, with_note};
 ghost use Rattle.jl_link.specs.Laws.{AllStand, DecidedStays};
+ghost use Rattle.jl_link.specs.Named as named;
+ghost use Rattle.jl_link.specs.Owners as owners;
+ghost use Rattle.jl_link.specs.There.{IsTargetThere};
 
 use crate::law::decided_stays;
 use jl_access::{FactsEnd, Key, Report};
 use jl_class::ClassDecl;
 use jl_layer::Layers;
-use jl_loads::{FileEnd, LinkEnd, Loads, PoolSlot, WorldFault};
-use jl_prim::{ClassId, FieldId, Items, LoaderId, MethodId, ModuleId};
+use jl_loads::{FileEnd, LinkEnd, Loads, PoolSlot, Target, WorldFault};
+use jl_prim::{ClassId, CopyEnd, FieldId, Items, LoaderId, MethodId, ModuleId, Name};
 use jl_tree::Tree;
 use std::marker::Model;
 use std::rc::Rc;
@@ -118,6 +123,43 @@ impl World {
         self.loads.note(key, step)
     }
 
+    /// The class that a loader has defined with a name.
+    pub fn defined(&self, l: LoaderId, name: &str) -> Result<Option<ClassId>, CopyEnd>
+        ensures class { IfOk result (λ c. c ≡ worlds.defined self.now l name.now) }
+        ensures there { IfOk result (λ c. IfSome c (IsClass self.now)) }
+    {
+        let name = Name::from_text(self.loads.allocator(), name)?;
+        Ok(self.loads.defined(l, name))
+    }
+
+    /// The class that a loader has loaded under a name, itself or through the loader to which it leads.
+    pub fn loaded_as(&self, l: LoaderId, name: &[u8]) -> Result<Option<ClassId>, CopyEnd>
+        requires text { IsUtf8 name.now }
+        requires loader { IsLoader self.now.layers.loaders l }
+        ensures class { IfOk result (λ c. c ≡ named.loaded_as self.now l name.now) }
+        ensures there { IfOk result (λ c. IfSome c (IsClass self.now)) }
+    {
+        match self.lead(l, name) {
+            Some(m) => match str::from_utf8(name) {
+                Ok(name) => self.defined(self.layers().loader_of_module(m), name),
+                Err(_) => unreachable!(),
+            },
+            None => Ok(None),
+        }
+    }
+
+    /// The module to which a loader leads a name.
+    fn lead(&self, l: LoaderId, name: &[u8]) -> Option<ModuleId>
+        requires { IsLoader self.now.layers.loaders l }
+        ensures leads { result ≡ lead self.now.layers.loaders l name.now }
+        ensures there { IfSome result (IsModule self.now.layers) }
+    {
+        let layers = self.layers();
+        jl_layer::are_sound(layers);
+        jl_layer::leads_by_layers(layers);
+        layers.loaders().lead(l, name)
+    }
+
     /// The layers.
     pub fn layers(&self) -> &Layers
         ensures { result.now ≡ self.now.layers }
@@ -194,6 +236,13 @@ impl World {
         self.loads.is_subtype(c, d)
     }
 
+    /// Whether a class is another one, or one of its subclasses.
+    pub fn is_subclass(&self, c: ClassId, d: ClassId) -> bool
+        ensures { result ≡ worlds.is_subclass self.now c d }
+    {
+        self.loads.is_subclass(c, d)
+    }
+
     /// What is decided of the references of a class, by the indices of its pool.
     pub fn pool_of(&self, c: ClassId) -> &[PoolSlot]
         requires { IsClass self.now c }
@@ -216,7 +265,8 @@ impl World {
     /// The class of a field, and its place there.
     pub fn field_owner(&self, f: FieldId) -> (ClassId, usize)
         requires { f.0 < all_fields self.now }
-        ensures { IsFieldOf self.now f result.0 result.1 }
+        ensures owner { IsFieldOf self.now f result.0 result.1 }
+        ensures found { owners.field_owner self.now f ≡ Some result }
     {
         self.loads.field_owner(f)
     }
@@ -234,7 +284,8 @@ impl World {
     /// The class of a method, and its place there.
     pub fn method_owner(&self, m: MethodId) -> (ClassId, usize)
         requires { m.0 < all_methods self.now }
-        ensures { IsMethodOf self.now m result.0 result.1 }
+        ensures owner { IsMethodOf self.now m result.0 result.1 }
+        ensures found { owners.method_owner self.now m ≡ Some result }
     {
         self.loads.method_owner(m)
     }
@@ -246,6 +297,15 @@ pub fn all_stand(w: &World)
     ensures { AllStand w.now }
 {
     let _ = &w.loads;
+}
+
+/// Says that what a reference refers to is there.
+#[tactic(auto, using(crate::proofs::Targets::target_there))]
+pub fn targets_are_there(w: &World)
+    ensures { (d : ClassId) (i : ℕ) (t : Target) → slot_at w.now d i ≡ Passed t → IsTargetThere w.now t }
+{
+    all_stand(w);
+    is_sound(w);
 }
 
 /// Says that what is loaded is sound.
