@@ -11,6 +11,7 @@ pub mod Imposed
 pub mod Joined
 pub mod Judging
 pub mod Lasting
+pub mod Listed
 pub mod Looked
 pub mod Looking
 pub mod MemberRows
@@ -27,5 +28,6 @@ pub mod WorldStands
 pub mod Going
 pub mod Through
 pub mod Targets
+mod DecidedRows
 mod NestRows
 mod ReferenceRows

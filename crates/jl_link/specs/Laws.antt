@@ -1,5 +1,5 @@
 -- Laws of what was decided: it stays so, whatever is loaded, noted, imposed or added (JVMS 5.4.3).
-use Rattle.std.specs.Prelude.{◌≡◌, ◌≢◌, ℕ, List, Option, Ok}
+use Rattle.std.specs.Prelude.{◌≡◌, ◌≢◌, ℕ, List, Option, Ok, Err}
 use Rattle.jl_logic.specs.Lists.{IsFront}
 use Rattle.jl_prim.specs.declared.numbers.ClassId.{ClassId}
 use Rattle.jl_prim.specs.declared.error_kind.ErrorKind.{ErrorKind}
@@ -29,7 +29,7 @@ pub record AllStand (s : State) : Type 0 where
   pub passed : (d : ClassId) (i : ℕ) (t : Target) → slot_at s d i ≡ Passed t → RefersTo s d i t
   pub there : (d : ClassId) (i : ℕ) → slot_at s d i ≢ Empty → IsClass s d
 
--- What was decided stays. A reference that passed refers to the same target in every later state, found anew at any step, whatever the files are; one that failed throws the same error, and nothing is added.
+-- What was decided stays. A reference that passed refers to the same target in every later state, found anew at any step, whatever the files are; one that failed throws the same error; and of either nothing is added.
 pub record DecidedStays : Type 0 where
   pub same : (f : State) → Onward f f
   pub onward : (f g h : State) → Onward f g → Onward g h → Onward f h
@@ -42,6 +42,7 @@ pub record DecidedStays : Type 0 where
   pub stand : (f g : State) → AreSound f → Onward f g → StayEmpty f g → AllStand f → AllStand g
   pub decided : (s : State) (d : ClassId) (i : ℕ) (t : Target) → AreSound s → AllStand s → IsClass s d → slot_at s d i ≡ Empty → RefersTo s d i t → AllStand (with_slot d i (Passed t) s)
   pub refused : (s : State) (d : ClassId) (i : ℕ) (kind : ErrorKind) (message : Option (List ℕ)) → AreSound s → AllStand s → IsClass s d → slot_at s d i ≡ Empty → AllStand (with_slot d i (Failed kind message) s)
-  -- once decided, always the same
+  -- once decided, always the same, with nothing added
   pub passed : (files : List File) (at : ℕ) (s : State) (d : ClassId) (i : ℕ) (t : Target) → slot_at s d i ≡ Passed t → resolve files at s d i ≡ (s, Ok t)
-  pub failed : (files : List File) (at : ℕ) (f g : State) (d : ClassId) (i : ℕ) → Onward f g → slot_at f d i ≢ Empty → (resolve files at g d i).1 ≡ (resolve files at f d i).1
+  pub failed : (files : List File) (at : ℕ) (s : State) (d : ClassId) (i : ℕ) (kind : ErrorKind) (message : Option (List ℕ)) → slot_at s d i ≡ Failed kind message → resolve files at s d i ≡ (s, Err (record { kind = kind; message = message }))
+  pub again : (files bfiles : List File) (at bt : ℕ) (f g : State) (d : ClassId) (i : ℕ) → Onward f g → slot_at f d i ≢ Empty → resolve files at g d i ≡ (g, (resolve bfiles bt f d i).1)

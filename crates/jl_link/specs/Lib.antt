@@ -14,3 +14,4 @@ pub mod Owners
 pub mod Named
 pub mod There
 pub mod Laws
+pub mod Decided

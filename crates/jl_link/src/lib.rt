@@ -23,6 +23,6 @@ mod targeting;
 mod world;
 
 pub use jl_loads::{FileEnd, LinkEnd, PoolSlot, Target, WorldFault};
-pub use law::decided_stays;
+pub use law::{decided_is_listed, decided_stays};
 pub use member::Member;
 pub use world::{World, all_stand, is_sound, targets_are_there};

@@ -1,6 +1,6 @@
 use Rattle.jl_link.proofs.Onwards.{RefersOn, onward_same, onward_onward, all_stand, passed_stand, failed_stand}
 use Rattle.jl_link.proofs.Lasting.{refers_on}
-use Rattle.jl_link.proofs.Deciding.{passed_again, decided_again}
+use Rattle.jl_link.proofs.Deciding.{passed_again, failed_again, decided_again}
 use Rattle.jl_link.proofs.FoundAgain.{found_again}
 use Rattle.jl_link.proofs.Going.{anew_on}
 use Rattle.jl_link.proofs.law.decided_stays.Goals as goal
@@ -18,5 +18,6 @@ returns c =
       decided = passed_stand refers;
       refused = failed_stand refers;
       passed = passed_again;
-      failed = decided_again;
+      failed = failed_again;
+      again = decided_again;
     }
