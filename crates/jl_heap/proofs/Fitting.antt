@@ -14,7 +14,8 @@ use Rattle.jl_heap.specs.declared.shape.Shape.TheVariants as shapes
 use Rattle.jl_heap.specs.declared.shape.Object.{Object}
 use Rattle.jl_heap.specs.Values.{kind_of, first_value}
 use Rattle.jl_heap.specs.Objects.{element_kind, new_object, slots_of, slot_kinds, slot_count, FitsShape}
-use Rattle.jl_heap.specs.Heap.{HeapState, at_number, object_at, kinds_in, with_changed, with_slot, with_mirror, with_units, with_item}
+use Rattle.std.specs.Option.{option_and_then}
+use Rattle.jl_heap.specs.Heap.{HeapState, at_number, object_at, kinds_in, with_changed, with_slot, with_mirror, with_units, with_item, slot_at}
 use Rattle.jl_heap.proofs.Alike.{object, slot_values}
 use Rattle.jl_heap.proofs.Staying.{seen_changed}
 
@@ -176,3 +177,11 @@ kinds_stay at v h o p e =
     kinds_seen (object_at (with_changed o (with_slot at v) h) p)
     ∙ ap (λ y. option_map_or (λ ks. ks) y []) (seen_changed (λ (y : Object). map kind_of (slots_of y)) (with_slot at v) h.objects t.object o.0 p.0 t.there same)
     ∙ sym (kinds_seen (object_at h p))
+
+-- the kind of a value that is found in a slot
+pub slot_kind : (h : HeapState) (o : ObjRef) (at : ℕ) (v : Value) → slot_at h o at ≡ Some v → slice_get (kinds_in h o) at ≡ Some (kind_of v)
+slot_kind h o at v e = by (object_at h o) e
+  where
+    by : (y : Option Object) → option_and_then (λ (x : Object). slice_get (slots_of x) at) y ≡ Some v → slice_get (option_map_or (λ (x : Object). map kind_of (slots_of x)) y []) at ≡ Some (kind_of v)
+    by None e = absurd (none-some v e)
+    by (Some x) e = slice_get-map kind_of (slots_of x) at ∙ ap (option_map kind_of) e

@@ -2,6 +2,7 @@
 
 ghost use Rattle.std.specs.Prelude.{◌≡◌, ◌↔◌, ◌<◌, ◌≤◌, ◌+◌, [], length, IfOk, IsErrOf, IsSome, IsTrue, OnErr, OnOk, Some, map, slice_get, false, not};
 ghost use Rattle.jl_prim.specs.declared.numbers.ObjRef.{ObjRef};
+ghost use Rattle.jl_heap.specs.declared.value.Value.{Value};
 ghost use Rattle.jl_heap.specs.declared.ends.HeapEnd.TheVariants.{Full};
 ghost use Rattle.jl_heap.specs.Heap.{HeapState, next_number, is_full, with_object, with_changed, with_slot, with_mirror, with_text, with_listed, slot_at, object_at, shape_at, kinds_in, units_at, items_at, mirror_at, begun_by};
 ghost use Rattle.jl_heap.specs.Laws.{SlotsFit};
@@ -140,6 +141,18 @@ impl Heap {
         ensures kind { slice_get (kinds_in self.now o) at ≡ Some (kind_of result) }
     {
         self.objects[o.0 as usize - 1].values()[at]
+    }
+
+    /// The value in a slot of an object. None where there is no such object, or it has no such slot.
+    #[tactic(auto, using(crate::proofs::Fitting::slot_kind))]
+    pub fn get(&self, o: ObjRef, at: usize) -> Option<Value>
+        ensures value { result ≡ slot_at self.now o at }
+        ensures kind { (v : Value) → slot_at self.now o at ≡ Some v → slice_get (kinds_in self.now o) at ≡ Some (kind_of v) }
+    {
+        if !self.has(o) {
+            return None;
+        }
+        self.objects[o.0 as usize - 1].values().get(at).copied()
     }
 
     /// Sets a slot of an object to a value of the slot's kind.
