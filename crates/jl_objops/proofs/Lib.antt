@@ -1,0 +1,4 @@
+-- Lemmas.
+pub mod Ending
+mod Refusing
+mod Lines
