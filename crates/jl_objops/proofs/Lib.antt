@@ -2,3 +2,4 @@
 pub mod Ending
 mod Refusing
 mod Lines
+mod WorkedRows
