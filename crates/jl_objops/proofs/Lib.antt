@@ -3,3 +3,4 @@ pub mod Ending
 mod Refusing
 mod Lines
 mod WorkedRows
+mod Callers

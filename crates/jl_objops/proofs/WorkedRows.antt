@@ -69,11 +69,11 @@ w = record {
     facts = record { modules = []; statements = []; spare_modules = 0; spare_statements = 0 };
   };
   classes = class (codes "java/lang/Object") 0x21 None [] [] []
-    ∷ class (codes "java/lang/Throwable") 0x21 (Some (c 1)) [] [] []
-    ∷ class (codes "java/lang/Cloneable") 0x601 (Some (c 1)) [] [] []
-    ∷ class (codes "p/C") 0x21 (Some (c 2)) [] (field 0x8 (codes "I") ∷ field 0 (codes "J") ∷ field 0x10 (codes "Ljava/lang/Object;") ∷ field 0x8 (codes "J") ∷ []) (method (codes "<init>") ∷ method (codes "m") ∷ [])
-    ∷ class (codes "p/D") 0x421 (Some (c 4)) [] (field 0 (codes "I") ∷ []) (method (codes "<init>") ∷ [])
-    ∷ [];
+      ∷ class (codes "java/lang/Throwable") 0x21 (Some (c 1)) [] [] []
+      ∷ class (codes "java/lang/Cloneable") 0x601 (Some (c 1)) [] [] []
+      ∷ class (codes "p/C") 0x21 (Some (c 2)) [] (field 0x8 (codes "I") ∷ field 0 (codes "J") ∷ field 0x10 (codes "Ljava/lang/Object;") ∷ field 0x8 (codes "J") ∷ []) (method (codes "<init>") ∷ method (codes "m") ∷ [])
+      ∷ class (codes "p/D") 0x421 (Some (c 4)) [] (field 0 (codes "I") ∷ []) (method (codes "<init>") ∷ [])
+      ∷ [];
   report = [];
   slots = [];
   kept = [];

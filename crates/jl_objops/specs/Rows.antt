@@ -1,6 +1,6 @@
 -- What an instruction that asks for classes does (JVMS 6.5): all but calls and arrays of arrays.
-use Rattle.std.specs.Prelude.{ℕ, List, Option, None, Some, Bool, false, ◌&&◌, ◌==◌, is_some, if◌then◌else◌}
-use Rattle.std.specs.Option.{option_and_then, option_map_or}
+use Rattle.std.specs.Prelude.{ℕ, List, Option, None, Some, ◌==◌, option_map, if◌then◌else◌}
+use Rattle.std.specs.Option.{option_and_then}
 use Rattle.jl_prim.specs.declared.numbers.ClassId.{ClassId}
 use Rattle.jl_prim.specs.declared.numbers.MethodId.{MethodId}
 use Rattle.jl_optable.specs.declared.ops.TheConstants as numbers
@@ -67,24 +67,28 @@ abbrev pub method_in : FrameKind → Option MethodId
 method_in (frame_kinds.Method m) = Some m
 method_in kind = None
 
--- the class and the place of the method of the top frame
-abbrev pub caller_on_top : State → Store → Option (ClassId × ℕ)
-caller_on_top w s = option_and_then (method_owner w) (option_and_then (λ (f : FrameState). method_in f.kind) (top_of s.frames))
-
 abbrev pub as_caller : ClassId × ℕ → Caller
 as_caller (c, place) = record { class = c; place = place }
+
+-- the method with a number
+abbrev pub caller_in : State → MethodId → Option Caller
+caller_in w m = option_map as_caller (method_owner w m)
+
+abbrev pub caller_of : State → FrameKind → Option Caller
+caller_of w kind = option_and_then (caller_in w) (method_in kind)
+
+-- the method of the top frame
+abbrev pub caller_on_top : State → Store → Option Caller
+caller_on_top w s = option_and_then (caller_of w) (option_map (λ (f : FrameState). f.kind) (top_of s.frames))
 
 -- what the instruction does at which the top frame stands
 abbrev pub row_at : List File → ℕ → State → Store → Caller → Option Instr → Option Outcome
 row_at files at w s caller None = None
-row_at files at w s caller (Some i) = by (row_of i) where
-  by : Option ObjectRow → Option Outcome
-  by None = None
-  by (Some r) = Some (row files at w s caller r (next_place i))
+row_at files at w s caller (Some i) = option_map (λ r. row files at w s caller r (next_place i)) (row_of i)
 
 abbrev pub row_under : List File → ℕ → State → Store → Code → Option Outcome
-row_under files at w s code = option_and_then (λ p. row_at files at w s (as_caller p) (instr_under code s)) (caller_on_top w s)
+row_under files at w s code = option_and_then (λ caller. row_at files at w s caller (instr_under code s)) (caller_on_top w s)
 
--- the top frame is of a method, and stands at an instruction that asks for classes
-abbrev pub stands_at_object : State → Store → Code → Bool
-stands_at_object w s code = is_some (caller_on_top w s) && option_map_or (λ i. is_some (row_of i)) (instr_under code s) false
+-- the row of the instruction at which the top frame stands, where it asks for classes
+abbrev pub object_row_under : Code → Store → Option ObjectRow
+object_row_under code s = option_and_then row_of (instr_under code s)

@@ -15,6 +15,7 @@ mod objects;
 mod referring;
 mod row;
 mod slots;
+mod standing;
 mod texts;
 mod types;
 
@@ -25,4 +26,5 @@ pub use executing::exec_row;
 pub use halt::Halt;
 pub use objects::kinds_of;
 pub use row::{CastOp, FieldOp, ObjectRow};
+pub use standing::exec_object;
 pub use types::{Fit, ObjectType};
